@@ -1,0 +1,5 @@
+mod Cardinals
+mod Handing
+mod Numbering
+mod Scan
+mod Tallies

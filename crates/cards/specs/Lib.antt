@@ -1,0 +1,6 @@
+pub mod Dealing
+pub mod Deck
+pub mod First
+pub mod Packs
+pub mod Refusals
+pub mod Seats

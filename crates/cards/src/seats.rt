@@ -1,0 +1,32 @@
+// The three seats of a deal.
+ghost use mathlib.Core.Path.{_≡_};
+ghost use Prim.Native.Nat.{_≤_};
+ghost use Rattle.std.specs.Options.{Cases};
+ghost use Rattle.cards.specs.Seats.{seatNumber};
+
+#[derive(Clone, Copy, PartialEq, Eq, Drop)]
+pub enum Seat {
+    Forehand,
+    Middlehand,
+    Rearhand,
+}
+
+impl Seat {
+    pub fn number(self) -> u8
+        ensures { λ r. ⌜ r ≡ seatNumber self ⌝ }
+    {
+        self as u8
+    }
+
+    // The seat of this number, if there is one.
+    pub fn from_number(number: u8) -> Option<Seat>
+        ensures { λ r. ⌜ Cases r (3 ≤ number) (λ seat. seatNumber seat ≡ number) ⌝ }
+    {
+        match number {
+            0 => Some(Seat::Forehand),
+            1 => Some(Seat::Middlehand),
+            2 => Some(Seat::Rearhand),
+            _ => None,
+        }
+    }
+}
