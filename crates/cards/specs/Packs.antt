@@ -1,14 +1,14 @@
 -- What a pack is, and what a cut does to it.
 use mathlib.Core.Path.{_≡_}
-use mathlib.Core.List.{List, _++_}
+use mathlib.Core.List.{List, [], _∷_, _++_}
 use Prim.Native.Nat.{ℕ, _≤_, _<_}
 use lib.ListN.{length, take, drop}
 use lib.Dec.{eqb, leb}
-use mathlib.Core.Bool.{cond, _&&_}
-use Rattle.std.specs.declared.result.Result.{Result}
-use Rattle.std.specs.declared.result.Result.the-variants.{Ok, Err}
+use mathlib.Core.Bool.{not, _&&_}
+use Rattle.std.specs.declared.option.Option.{Option}
 use Rattle.cards.specs.declared.refusals.Refusal.{Refusal}
 use Rattle.cards.specs.declared.refusals.Refusal.the-variants.{NoSuchMark}
+use Rattle.cards.specs.Refusals.{topmost}
 use Rattle.std.specs.shelf.Lists.{countBy, All}
 
 -- How often a number occurs among several.
@@ -23,6 +23,6 @@ IsPack numbers = (length numbers ≡ 32) × All (λ n. n < 32) numbers × ((n : 
 abbrev pub cutAt : {A : Type 0} → ℕ → List A → List A
 cutAt k cards = drop k cards ++ take k cards
 
--- The answer to a mark that is put: it leaves at least four cards on either side, or is refused.
-abbrev pub markAnswer : ℕ → Result (Unit {0}) Refusal
-markAnswer mark = cond (leb 4 mark && leb mark 28) (Ok tt) (Err NoSuchMark)
+-- A mark leaves at least four cards on either side.
+abbrev pub markRefusal : ℕ → Option Refusal
+markRefusal mark = topmost ((NoSuchMark, not (leb 4 mark && leb mark 28)) ∷ [])

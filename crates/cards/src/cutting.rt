@@ -7,10 +7,9 @@ ghost use Rattle.std.specs.Options.{Cases as BySome};
 ghost use Rattle.std.specs.Results.{Cases, isOk};
 ghost use mathlib.Core.Bool.{cond};
 ghost use Rattle.std.specs.Iters.{counting};
-ghost use Rattle.std.specs.declared.result.Result.the-variants.{Ok, Err};
 ghost use Rattle.cards.specs.Deck.{cardNumber};
-ghost use Rattle.cards.specs.declared.deck.Card.{Card};
-ghost use Rattle.cards.specs.Packs.{IsPack, cutAt, markAnswer, times};
+ghost use Rattle.cards.specs.Packs.{IsPack, cutAt, markRefusal, times};
+ghost use Rattle.cards.specs.Refusals.{answered};
 ghost use Rattle.cards.specs.declared.refusals.Refusal.the-variants.{NotAPack};
 use super::deck::Card;
 use super::deck::Place;
@@ -81,7 +80,7 @@ impl UncutPack {
 
     // Puts another mark, which leaves at least four cards on either side.
     pub fn put_mark(&mut self, mark: u8) -> Result<(), Refusal>
-        ensures answer { λ r. ⌜ r ≡ markAnswer mark ⌝ }
+        ensures answer { λ r. ⌜ r ≡ answered (markRefusal mark) tt ⌝ }
         ensures cards { λ r. ⌜ now (self .exit) .cards ≡ now (self .entry) .cards ⌝ }
         ensures mark { λ r. ⌜ now (self .exit) .mark ≡ cond (isOk r) mark (now (self .entry) .mark) ⌝ }
     {

@@ -12,11 +12,10 @@ pub enum Refusal {
     BadPoints,
     FileTooShort,
     BadTag,
-    BadHeader,
+    NotAList,
     BadRow,
     BadGames,
     NoSuchEntry,
-    OutOfMemory,
 }
 
 impl Refusal {
@@ -33,11 +32,10 @@ impl Refusal {
             Refusal::BadPoints => 19,
             Refusal::FileTooShort => 20,
             Refusal::BadTag => 21,
-            Refusal::BadHeader => 22,
+            Refusal::NotAList => 22,
             Refusal::BadRow => 23,
             Refusal::BadGames => 24,
             Refusal::NoSuchEntry => 27,
-            Refusal::OutOfMemory => 255,
         }
     }
 }

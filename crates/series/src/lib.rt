@@ -1,0 +1,5 @@
+// What is written down: the list of a series, its totals and its file.
+pub mod entering;
+pub mod lists;
+pub mod rows;
+pub mod totals;
