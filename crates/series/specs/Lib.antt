@@ -1,3 +1,4 @@
+pub mod Format
 pub mod Opening
 pub mod Rows
 pub mod Totals

@@ -3,3 +3,4 @@ pub mod entering;
 pub mod lists;
 pub mod rows;
 pub mod totals;
+pub mod writing;
