@@ -3,3 +3,4 @@ mod Handing
 mod Numbering
 mod Scan
 mod Tallies
+pub mod Topmost

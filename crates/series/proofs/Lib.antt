@@ -1,3 +1,6 @@
 mod Blocks
 mod Counting
+mod Filing
 mod Pushes
+mod Raws
+mod Rounds

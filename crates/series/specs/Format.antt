@@ -12,14 +12,17 @@ use mir.Val.{toZ}
 use Rattle.std.specs.Joined.{joined}
 use Rattle.std.specs.shelf.Lists.{countBy}
 use Rattle.std.specs.declared.option.Option.{Option}
+use Rattle.std.specs.declared.option.Option.the-variants.{Some, None}
 use Rattle.std.specs.declared.result.Result.{Result}
 use Rattle.std.specs.declared.result.Result.the-variants.{Ok, Err}
 use Rattle.cards.specs.declared.refusals.Refusal.{Refusal}
 use Rattle.cards.specs.declared.refusals.Refusal.the-variants.{BufferTooShort, FileTooShort, BadTag, NotAList, BadRow, BadGames}
 use Rattle.cards.specs.Refusals.{topmost}
 use Rattle.series.specs.declared.rows.Places.{Places}
+use Rattle.series.specs.declared.reading.Header.{Header}
+use Rattle.series.specs.declared.reading.Listed.{Listed}
 use Rattle.series.specs.declared.rows.Row.{Row}
-use Rattle.series.specs.Rows.{placesNumber, isPlaces, isRole, isCount, roleNumber, pointsOf, isGame}
+use Rattle.series.specs.Rows.{placesNumber, isPlaces, isRole, isCount, roleNumber, pointsOf, isGame, areRows}
 
 -- A number in two and in four bytes, low byte first.
 abbrev pub inTwo : ℕ → List ℕ
@@ -76,6 +79,14 @@ pub record RawRow : Type 0 where
   pub second : ℕ
   pub points : ℤ
 
+-- A row as its file has it.
+abbrev pub rawOf : Row → RawRow
+rawOf row = record { role = roleNumber row; second = 0; points = pointsOf row }
+
+-- The row in four bytes from a place on.
+abbrev pub rawAt : List ℕ → ℕ → RawRow
+rawAt bytes at = record { role = getD bytes at 0; second = getD bytes (at + 1) 0; points = signed16 (getD bytes (at + 2) 0 + getD bytes (at + 3) 0 * 256) }
+
 -- The rows in these bytes, four bytes each.
 abbrev pub rawRows : List ℕ → List RawRow
 rawRows [] = []
@@ -123,16 +134,43 @@ isHeader file =
     && eqb (lengthField file) (fileLength (rowsField file))
     && eqb (lengthField file) (length file)
 
--- Why bytes are not the file of a list.
-abbrev pub headerRefusal : List ℕ → Option Refusal
-headerRefusal file = topmost ((FileTooShort, ltb (length file) 16) ∷ ((BadTag, not (isTag file)) ∷ ((NotAList, not (isHeader file)) ∷ [])))
+-- Why bytes are not the file of a list: what is refused in the header, and then in the rows.
+abbrev pub headerRefusals : List ℕ → List (Refusal × Bool)
+headerRefusals file =
+    (FileTooShort, ltb (length file) 16) ∷ ((BadTag, not (isTag file)) ∷ ((NotAList, not (isHeader file)) ∷ []))
 
-abbrev pub fileRefusal : List ℕ → Option Refusal
-fileRefusal file =
-    topmost (
-    (FileTooShort, ltb (length file) 16)
-    ∷ ((BadTag, not (isTag file))
-    ∷ ((NotAList, not (isHeader file))
-    ∷ ((BadRow, not (areRawRows (rowsIn file)))
-    ∷ ((BadGames, not (eqb (gamesField file) (countBy isRawGame (rowsIn file))))
-    ∷ [])))))
+abbrev pub rowRefusals : List ℕ → List (Refusal × Bool)
+rowRefusals file =
+    (BadRow, not (areRawRows (rowsIn file))) ∷ ((BadGames, not (eqb (gamesField file) (countBy isRawGame (rowsIn file)))) ∷ [])
+
+unfoldable pub fileRefusal : List ℕ → Option Refusal
+fileRefusal file = topmost (headerRefusals file ++ rowRefusals file)
+
+-- What reading a header gives: its fields, or why it is none.
+abbrev pub HeaderRead : List ℕ → Result Header Refusal → Type 0
+HeaderRead file (Ok head) =
+    (topmost (headerRefusals file) ≡ None)
+    × (placesNumber (head .places) ≡ getD file 4 0)
+    × (head .rows ≡ rowsField file)
+    × (head .games ≡ gamesField file)
+    × (head .offset ≡ offsetField file)
+HeaderRead file (Err refusal) = topmost (headerRefusals file) ≡ Some refusal
+
+-- What reading a file gives: the list whose file it is, or why it is none.
+abbrev pub FileRead : List ℕ → Result Listed Refusal → Type 0
+FileRead file (Ok listed) =
+    (fileRefusal file ≡ None)
+    × (listed .count ≤ 48)
+    × (areRows (take (listed .count) (listed .rows)) ≡ true)
+    × (fileOf (listed .places) (take (listed .count) (listed .rows)) ≡ file)
+FileRead file (Err refusal) = fileRefusal file ≡ Some refusal
+
+-- A file read into a list: its file is then this one, or it is refused and the list is as it was.
+abbrev pub ListRead : List ℕ → Result (Unit {0}) Refusal → Places → List Row → Places → List Row → Type 0
+ListRead file (Ok _) places rows newPlaces newRows = fileOf newPlaces newRows ≡ file
+ListRead file (Err refusal) places rows newPlaces newRows = (newPlaces ≡ places) × (newRows ≡ rows)
+
+-- Whatever list the file was written from, it is accepted, and that list is what it gives.
+abbrev pub ReadBack : List ℕ → Result (Unit {0}) Refusal → Places → List Row → Type 0
+ReadBack file answer newPlaces newRows =
+    (places : Places) (rows : List Row) → areRows rows ≡ true → length rows ≤ 48 → file ≡ fileOf places rows → (answer ≡ Ok tt) × (newPlaces ≡ places) × (newRows ≡ rows)

@@ -1,0 +1,272 @@
+-- The bytes of a list and the list of bytes, for `read`.
+use mathlib.Core.Path.{_≡_, refl, sym, ap, subst, _∙_}
+use mathlib.Core.Bool.{Bool, true, false, cond, not, _&&_, _||_}
+use mathlib.Core.List.{List, [], _∷_, _++_, map}
+use Prim.Native.Nat.{ℕ, _+_, _-_, _*_, _/_, _%_, _<_, _≤_}
+use native.Mathlib.Omega.{arith}
+use lib.Dec.{eqb, ltb, leb}
+use lib.ListN.{length, getD, take, drop}
+use Rattle.std.specs.Joined.{joined}
+use Rattle.std.specs.shelf.Lists.{countBy}
+use Rattle.std.specs.declared.option.Option.{Option}
+use Rattle.std.specs.declared.option.Option.the-variants.{Some, None}
+use Rattle.std.proofs.shelf.Lists.{drop-more, drop-at, take-rest, getD-drop, length-drop, length-take-le}
+use Rattle.std.proofs.shelf.Tests.{and-parts, and-from, not-false, ltb-false, leb-true, eqb-true, le-ltb, le-leb, eq-eqb, ne-eqb}
+use Rattle.std.proofs.shelf.Sums.{countBy-le-length}
+use Rattle.cards.specs.declared.refusals.Refusal.{Refusal}
+use Rattle.cards.specs.declared.refusals.Refusal.the-variants.{FileTooShort, BadTag, NotAList, BadRow, BadGames}
+use Rattle.std.specs.declared.result.Result.{Result}
+use Rattle.std.specs.declared.result.Result.the-variants.{Ok}
+use Rattle.cards.specs.Refusals.{topmost, answered}
+use Rattle.cards.proofs.Topmost.{none-parts, none-from, topmost-past, topmost-early}
+use Rattle.series.specs.declared.rows.Places.{Places}
+use Rattle.series.specs.declared.rows.Places.the-variants.{Three, Four}
+use Rattle.series.specs.declared.rows.Row.{Row}
+use Rattle.series.specs.Rows.{placesNumber, isPlaces, isGame, areRows}
+use Rattle.series.specs.Format.{inTwo, inFour, games, header, fileOf, fileLength, rowBytes, rawOf, rawRows, areRawRows, isRawGame, twoAt, fourAt, rowsField, gamesField, offsetField, lengthField, rowsIn, isTag, isHeader, headerRefusals, rowRefusals, fileRefusal, ListRead, ReadBack}
+use Rattle.series.proofs.Blocks.{length-header, length-rows, length-file}
+use Rattle.series.proofs.Rounds.{two-back, four-back, two-join, small-join, raws-of, bytes-of, raw-games, raws-good, same-rows}
+
+-- a refused header is a refused file
+pub header-refused : (file : List ℕ) (refusal : Refusal) → topmost (headerRefusals file) ≡ Some refusal → fileRefusal file ≡ Some refusal
+unfolding fileRefusal
+header-refused file refusal e = topmost-early (headerRefusals file) (rowRefusals file) refusal e
+
+abbrev pub sameGames : List ℕ → Bool
+sameGames file = eqb (gamesField file) (countBy isRawGame (rowsIn file))
+
+module _ (file : List ℕ) (ok : topmost (headerRefusals file) ≡ None) where
+  rest : fileRefusal file ≡ topmost (rowRefusals file)
+  unfolding fileRefusal
+  rest = topmost-past (headerRefusals file) (rowRefusals file) ok
+
+  pub rows-refused : areRawRows (rowsIn file) ≡ false → fileRefusal file ≡ Some BadRow
+  rows-refused bad = rest ∙ ap (λ b. topmost ((BadRow, not b) ∷ ((BadGames, not (sameGames file)) ∷ []))) bad
+
+  module _ (good : areRawRows (rowsIn file) ≡ true) where
+    left : fileRefusal file ≡ topmost ((BadGames, not (sameGames file)) ∷ [])
+    left = rest ∙ ap (λ b. topmost ((BadRow, not b) ∷ ((BadGames, not (sameGames file)) ∷ []))) good
+
+    pub games-refused : sameGames file ≡ false → fileRefusal file ≡ Some BadGames
+    games-refused bad = left ∙ ap (λ b. topmost ((BadGames, not b) ∷ [])) bad
+
+    pub accepted : sameGames file ≡ true → fileRefusal file ≡ None
+    accepted same = left ∙ ap (λ b. topmost ((BadGames, not b) ∷ [])) same
+
+-- what a header that is not refused has
+pub record HeaderFacts (file : List ℕ) : Type 0 where
+  pub long : 16 ≤ length file
+  pub tag : (getD file 0 0 ≡ 83) × (getD file 1 0 ≡ 75) × (getD file 2 0 ≡ 76) × (getD file 3 0 ≡ 49)
+  pub zero : getD file 5 0 ≡ 0
+  pub few : rowsField file ≤ 48
+  pub offset : offsetField file ≡ 16
+  pub rows : lengthField file ≡ fileLength (rowsField file)
+  pub whole : lengthField file ≡ length file
+
+pub header-facts : (file : List ℕ) → topmost (headerRefusals file) ≡ None → HeaderFacts file
+header-facts file ok =
+    let a = none-parts FileTooShort (ltb (length file) 16) ((BadTag, not (isTag file)) ∷ ((NotAList, not (isHeader file)) ∷ [])) ok in
+    let b = none-parts BadTag (not (isTag file)) ((NotAList, not (isHeader file)) ∷ []) (a .1) in
+    let c = none-parts NotAList (not (isHeader file)) [] (b .1) in
+    let t3 = and-parts _ (eqb (getD file 3 0) 49) (not-false (isTag file) (b .0)) in
+    let t2 = and-parts _ (eqb (getD file 2 0) 76) (t3 .0) in
+    let t1 = and-parts (eqb (getD file 0 0) 83) (eqb (getD file 1 0) 75) (t2 .0) in
+    let h5 = and-parts _ (eqb (lengthField file) (length file)) (not-false (isHeader file) (c .0)) in
+    let h4 = and-parts _ (eqb (lengthField file) (fileLength (rowsField file))) (h5 .0) in
+    let h3 = and-parts _ (eqb (offsetField file) 16) (h4 .0) in
+    let h2 = and-parts _ (leb (rowsField file) 48) (h3 .0) in
+    let h1 = and-parts (isPlaces (getD file 4 0)) (eqb (getD file 5 0) 0) (h2 .0) in
+    record {
+      long = ltb-false (length file) 16 (a .0);
+      tag = (eqb-true _ 83 (t1 .0), eqb-true _ 75 (t1 .1), eqb-true _ 76 (t2 .1), eqb-true _ 49 (t3 .1));
+      zero = eqb-true _ 0 (h1 .1);
+      few = leb-true _ 48 (h2 .1);
+      offset = eqb-true _ 16 (h3 .1);
+      rows = eqb-true _ _ (h4 .1);
+      whole = eqb-true _ _ (h5 .1);
+    }
+
+-- a file from its first 16 bytes on
+sixteen : (file : List ℕ) → 16 ≤ length file → file ≡ getD file 0 0 ∷ (getD file 1 0 ∷ (getD file 2 0 ∷ (getD file 3 0 ∷ (getD file 4 0 ∷ (getD file 5 0 ∷ (getD file 6 0 ∷ (getD file 7 0 ∷ (getD file 8 0 ∷ (getD file 9 0 ∷ (getD file 10 0 ∷ (getD file 11 0 ∷ (getD file 12 0 ∷ (getD file 13 0 ∷ (getD file 14 0 ∷ (getD file 15 0 ∷ (drop 16 file))))))))))))))))
+sixteen file long =
+    let d0 = drop-more file 0 0 (omega arith) in
+    let d1 = drop-more file 1 0 (omega arith) in
+    let d2 = drop-more file 2 0 (omega arith) in
+    let d3 = drop-more file 3 0 (omega arith) in
+    let d4 = drop-more file 4 0 (omega arith) in
+    let d5 = drop-more file 5 0 (omega arith) in
+    let d6 = drop-more file 6 0 (omega arith) in
+    let d7 = drop-more file 7 0 (omega arith) in
+    let d8 = drop-more file 8 0 (omega arith) in
+    let d9 = drop-more file 9 0 (omega arith) in
+    let d10 = drop-more file 10 0 (omega arith) in
+    let d11 = drop-more file 11 0 (omega arith) in
+    let d12 = drop-more file 12 0 (omega arith) in
+    let d13 = drop-more file 13 0 (omega arith) in
+    let d14 = drop-more file 14 0 (omega arith) in
+    let d15 = drop-more file 15 0 (omega arith) in
+    cc
+
+module _ (file : List ℕ) (small : (i : ℕ) → getD file i 0 < 256) (facts : HeaderFacts file) where
+  head-is : (n count : ℕ) → n ≡ getD file 4 0 → count ≡ gamesField file → file ≡ header n (rowsField file) count ++ drop 16 file
+  unfolding header
+  head-is n count places games =
+      let front = sixteen file (facts .long) in
+      let tag = facts .tag in
+      let zero = facts .zero in
+      let rows = two-back (getD file 6 0) (getD file 7 0) (small 6) (small 7) in
+      let played : inTwo count ≡ getD file 8 0 ∷ (getD file 9 0 ∷ []) = ap inTwo games ∙ two-back (getD file 8 0) (getD file 9 0) (small 8) (small 9) in
+      let offset : inTwo 16 ≡ getD file 10 0 ∷ (getD file 11 0 ∷ []) = ap inTwo (sym (facts .offset)) ∙ two-back (getD file 10 0) (getD file 11 0) (small 10) (small 11) in
+      let whole : inFour (fileLength (rowsField file)) ≡ getD file 12 0 ∷ (getD file 13 0 ∷ (getD file 14 0 ∷ (getD file 15 0 ∷ []))) =
+      ap inFour (sym (facts .rows)) ∙ four-back (getD file 12 0) (getD file 13 0) (getD file 14 0) (getD file 15 0) (small 12) (small 13) (small 14) (small 15) in
+      cc
+
+  -- the list that was read has these bytes for its file
+  pub read-is : (places : Places) (rows : List Row) → placesNumber places ≡ getD file 4 0 → length rows ≡ rowsField file → rowsIn file ≡ map rawOf rows → games rows ≡ gamesField file → fileOf places rows ≡ file
+  read-is places rows seats count is played =
+      let body : drop 16 file ≡ joined rowBytes rows =
+      bytes-of (drop 16 file) rows
+      (λ i. subst (λ k. k < 256) (sym (getD-drop 16 file i 0)) (small (16 + i)))
+      (omega (arith, length-drop 16 file, facts .rows, facts .whole))
+      (ap (λ k. rawRows (drop k file)) (sym (facts .offset)) ∙ is) in
+      ap (λ k. header (placesNumber places) k (games rows) ++ joined rowBytes rows) count
+      ∙ (ap (λ ks. header (placesNumber places) (rowsField file) (games rows) ++ ks) (sym body)
+      ∙ sym (head-is (placesNumber places) (games rows) seats played))
+
+-- the file of a list, field by field
+module _ (places : Places) (rows : List Row) where
+  byte-four : getD (fileOf places rows) 4 0 ≡ placesNumber places
+  unfolding header
+  byte-four = refl
+
+  rest-of : drop 16 (fileOf places rows) ≡ joined rowBytes rows
+  rest-of = drop-at (header (placesNumber places) (length rows) (games rows)) (joined rowBytes rows) 16 (length-header (placesNumber places) (length rows) (games rows))
+
+  tag-of : isTag (fileOf places rows) ≡ true
+  unfolding header
+  tag-of = refl
+
+  rows-of : rowsField (fileOf places rows) ≡ length rows % 256 + length rows / 256 % 256 * 256
+  unfolding header
+  rows-of = refl
+
+  games-of : gamesField (fileOf places rows) ≡ games rows % 256 + games rows / 256 % 256 * 256
+  unfolding header
+  games-of = refl
+
+  offset-of : offsetField (fileOf places rows) ≡ 16
+  unfolding header
+  offset-of = refl
+
+  length-of : lengthField (fileOf places rows) ≡ (let n = fileLength (length rows) in n % 256 + n / 256 % 256 * 256 + n / 65536 % 256 * 65536 + n / 16777216 % 256 * 16777216)
+  unfolding header
+  length-of = refl
+
+  zero-of : getD (fileOf places rows) 5 0 ≡ 0
+  unfolding header
+  zero-of = refl
+
+places-good : (places : Places) → isPlaces (placesNumber places) ≡ true
+places-good Three = refl
+places-good Four = refl
+
+same-places : (p q : Places) → placesNumber p ≡ placesNumber q → p ≡ q
+same-places Three Three e = refl
+same-places Three Four e = absurd (omega arith)
+same-places Four Three e = absurd (omega arith)
+same-places Four Four e = refl
+
+-- the file of a list is accepted
+module _ (places : Places) (rows : List Row) (good : areRows rows ≡ true) (few : length rows ≤ 48) where
+  rows-in : rowsIn (fileOf places rows) ≡ map rawOf rows
+  rows-in = ap (λ k. rawRows (drop k (fileOf places rows))) (offset-of places rows) ∙ (ap rawRows (rest-of places rows) ∙ raws-of rows good)
+
+  rows-field : rowsField (fileOf places rows) ≡ length rows
+  rows-field = rows-of places rows ∙ two-join (length rows) (omega arith)
+
+  length-field : lengthField (fileOf places rows) ≡ fileLength (length rows)
+  length-field = length-of places rows ∙ small-join (fileLength (length rows)) (omega arith)
+
+  games-field : gamesField (fileOf places rows) ≡ games rows
+  games-field = games-of places rows ∙ two-join (games rows) (omega (arith, countBy-le-length isGame rows))
+
+  header-good : isHeader (fileOf places rows) ≡ true
+  header-good =
+      let file = fileOf places rows in
+      let p : isPlaces (getD file 4 0) ≡ true = ap isPlaces (byte-four places rows) ∙ places-good places in
+      let z : eqb (getD file 5 0) 0 ≡ true = eq-eqb _ 0 (zero-of places rows) in
+      let r : leb (rowsField file) 48 ≡ true = le-leb _ 48 (omega (arith, rows-field)) in
+      let o : eqb (offsetField file) 16 ≡ true = eq-eqb _ 16 (offset-of places rows) in
+      let l : eqb (lengthField file) (fileLength (rowsField file)) ≡ true = eq-eqb _ _ (length-field ∙ ap fileLength (sym rows-field)) in
+      let w : eqb (lengthField file) (length file) ≡ true = eq-eqb _ _ (length-field ∙ sym (length-file places rows)) in
+      and-from _ _ (and-from _ _ (and-from _ _ (and-from _ _ (and-from _ _ p z) r) o) l) w
+
+  pub file-accepted : fileRefusal (fileOf places rows) ≡ None
+  file-accepted =
+      let file = fileOf places rows in
+      let long : ltb (length file) 16 ≡ false = le-ltb (length file) 16 (omega (arith, length-file places rows)) in
+      let head : topmost (headerRefusals file) ≡ None =
+      none-from FileTooShort _ ((BadTag, not (isTag file)) ∷ ((NotAList, not (isHeader file)) ∷ [])) long
+      (none-from BadTag _ ((NotAList, not (isHeader file)) ∷ []) (ap not (tag-of places rows)) (none-from NotAList _ [] (ap not header-good) refl)) in
+      accepted file head
+      (ap areRawRows rows-in ∙ raws-good rows good)
+      (eq-eqb _ _ (games-field ∙ sym (ap (countBy isRawGame) rows-in ∙ raw-games rows)))
+
+-- two lists with one file are the same
+pub file-same : (p q : Places) (r s : List Row) → areRows r ≡ true → areRows s ≡ true → fileOf p r ≡ fileOf q s → (p ≡ q) × (r ≡ s)
+file-same p q r s good fine e = (
+  same-places p q (sym (byte-four p r) ∙ (ap (λ file. getD file 4 0) e ∙ byte-four q s)),
+  same-rows r s (sym (raws-of r good) ∙ (ap rawRows (sym (rest-of p r) ∙ (ap (drop 16) e ∙ rest-of q s)) ∙ raws-of s fine)),
+)
+
+-- a file whose header stands, read from its offset on
+module _ (file : List ℕ) (small : (i : ℕ) → getD file i 0 < 256) (ok : topmost (headerRefusals file) ≡ None) (offset count : ℕ) (from : offset ≡ offsetField file) (n : count ≡ rowsField file) where
+  abbrev pub partOf : List ℕ
+  partOf = take (length file - offset) (drop offset file)
+
+  in-part : rawRows partOf ≡ rowsIn file
+  in-part = ap rawRows (take-rest file offset ∙ ap (λ k. drop k file) from)
+
+  part-rows : length partOf / 4 ≡ count
+  part-rows =
+      let facts = header-facts file ok in
+      let long : length partOf ≡ length file - offset = ap length (take-rest file offset) ∙ length-drop offset file in
+      omega (arith, facts .offset, facts .rows, facts .whole)
+
+  pub part-refused : areRawRows (rawRows partOf) ≡ false → fileRefusal file ≡ Some BadRow
+  part-refused bad = rows-refused file ok (ap areRawRows (sym in-part) ∙ bad)
+
+  module _ (rows : List Row) (room : length rows ≡ 48) (read : (rawRows partOf ≡ map rawOf (take (length partOf / 4) rows)) × (areRows (take (length partOf / 4) rows) ≡ true)) (played stated : ℕ) (counted : played ≡ games (take count rows)) (said : stated ≡ gamesField file) where
+    rows-are : rowsIn file ≡ map rawOf (take count rows)
+    rows-are = sym in-part ∙ (read .0 ∙ ap (λ k. map rawOf (take k rows)) part-rows)
+
+    rows-good : areRows (take count rows) ≡ true
+    rows-good = subst (λ k. areRows (take k rows) ≡ true) part-rows (read .1)
+
+    good : areRawRows (rowsIn file) ≡ true
+    good = ap areRawRows rows-are ∙ raws-good (take count rows) rows-good
+
+    raw-played : countBy isRawGame (rowsIn file) ≡ played
+    raw-played = ap (countBy isRawGame) rows-are ∙ (raw-games (take count rows) ∙ sym counted)
+
+    pub games-differ : (played ≡ stated → ⊥) → fileRefusal file ≡ Some BadGames
+    games-differ differ = games-refused file ok good (ne-eqb (gamesField file) (countBy isRawGame (rowsIn file)) (λ e. differ (sym raw-played ∙ (sym e ∙ sym said))))
+
+    pub list-read : (places : Places) → placesNumber places ≡ getD file 4 0 → played ≡ stated → (fileRefusal file ≡ None) × (count ≤ 48) × (areRows (take count rows) ≡ true) × (fileOf places (take count rows) ≡ file)
+    list-read places seats same =
+        let facts = header-facts file ok in
+        let few : count ≤ 48 = omega (arith, facts .few) in (
+          accepted file ok good (eq-eqb (gamesField file) (countBy isRawGame (rowsIn file)) (sym said ∙ (sym same ∙ sym raw-played))),
+          few,
+          rows-good,
+          read-is file small facts places (take count rows) seats (length-take-le count rows (omega arith) ∙ n) rows-are (sym counted ∙ (same ∙ said)),
+        )
+
+-- what was written is read back
+pub read-back : (file : List ℕ) (answer : Result (Unit {0}) Refusal) (p q : Places) (r s : List Row) → areRows s ≡ true → answer ≡ answered (fileRefusal file) tt → ListRead file answer p r q s → ReadBack file answer q s
+read-back file answer p q r s fine said list = λ places rows good few is.
+    let none : fileRefusal file ≡ None = ap fileRefusal is ∙ file-accepted places rows good few in
+    let ok : answer ≡ Ok tt = said ∙ ap (λ o. answered o tt) none in
+    let new : fileOf q s ≡ file = subst (λ a. ListRead file a p r q s) ok list in
+    let same = file-same q places s rows fine good (new ∙ is) in
+    (ok, same .0, same .1)
