@@ -1,4 +1,5 @@
 pub mod Format
+pub mod Lines
 pub mod Opening
 pub mod Rows
 pub mod Totals

@@ -187,6 +187,12 @@ impl OpenList {
 }
 
 impl ClosedList {
+    pub fn places(&self) -> Places
+        ensures { λ r. ⌜ r ≡ now (self .entry) .sheet .places ⌝ }
+    {
+        self.sheet.places
+    }
+
     // What the list counts for a place.
     pub fn totals(&self, place: u8) -> Result<Totals, Refusal>
         ensures { λ r. ⌜ r ≡ totalsAnswer (placesNumber (now (self .entry) .sheet .places)) place (vec-items (now (self .entry) .sheet .rows)) ⌝ }

@@ -1,5 +1,5 @@
-// Reads the file of a list from standard input and prints the list's standing.
-use cards::refusals::Refusal;
+// Reads the file of a list from standard input and prints the report on it.
+use ranking::reports::report;
 use std::io;
 use std::io::Read;
 
@@ -9,10 +9,6 @@ const MOST: u64 = 209;
 fn main(rt: LibcRuntime) -> io::Result<()> {
     let mut file = Vec::new(rt.alloc());
     rt.stdin().take(MOST).read_to_end(&mut file)?;
-    let number = if file.len() < 16 {
-        Refusal::FileTooShort.number()
-    } else {
-        0
-    };
-    println!(rt, "{number}")
+    let text = report(rt.alloc(), file.as_slice())?;
+    print!(rt, "{text}")
 }

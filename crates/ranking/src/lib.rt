@@ -1,0 +1,3 @@
+// Who stands where: the order of a list's places, and the report that names it.
+pub mod reports;
+pub mod standings;
