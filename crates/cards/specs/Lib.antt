@@ -4,3 +4,4 @@ pub mod First
 pub mod Packs
 pub mod Refusals
 pub mod Seats
+pub mod Setting

@@ -4,16 +4,17 @@ ghost use mathlib.Core.List.{map};
 ghost use Prim.Native.Nat.{ℕ, _≤_, _<_};
 ghost use lib.ListN.{length};
 ghost use Rattle.std.specs.Options.{Cases as BySome};
-ghost use Rattle.std.specs.Results.{Cases, isOk};
+ghost use Rattle.std.specs.Results.{isOk};
 ghost use mathlib.Core.Bool.{cond};
 ghost use Rattle.std.specs.Iters.{counting};
 ghost use Rattle.cards.specs.Deck.{cardNumber};
 ghost use Rattle.cards.specs.Packs.{IsPack, cutAt, markRefusal, times};
+ghost use Rattle.cards.specs.Setting.{PackSet};
 ghost use Rattle.cards.specs.Refusals.{answered};
-ghost use Rattle.cards.specs.declared.refusals.Refusal.the-variants.{NotAPack};
 use super::deck::Card;
 use super::deck::Place;
 use super::deck::Suit;
+use super::packs::BadPack;
 use super::packs::CutPack;
 use super::packs::UncutPack;
 use super::refusals::Refusal;
@@ -63,18 +64,17 @@ fn ordered_cards() -> [Card; 32]
 impl UncutPack {
     // The pack of these card numbers, from the top, with its mark in the middle. If they are
     // not 32 different cards, a refusal and a pack in the order of the numbers.
-    pub fn set(numbers: &[u8]) -> Result<UncutPack, (Refusal, UncutPack)>
-        ensures { λ r. ⌜ Cases r (λ pack. IsPack (now (numbers .entry)) × (map cardNumber (pack .cards) ≡ now (numbers .entry)) × (pack .mark ≡ 16)) (λ bad. (IsPack (now (numbers .entry)) → ⊥) × (bad .0 ≡ NotAPack) × (map cardNumber (bad .1 .cards) ≡ counting 0 32) × (bad .1 .mark ≡ 16)) ⌝ }
+    pub fn set(numbers: &[u8]) -> Result<UncutPack, BadPack>
+        ensures { λ r. ⌜ PackSet (now (numbers .entry)) r ⌝ }
     {
         match named_cards(numbers) {
             Some(cards) => Ok(UncutPack { cards, mark: 16 }),
-            None => Err((
-                Refusal::NotAPack,
-                UncutPack {
-                    cards: ordered_cards(),
-                    mark: 16,
-                },
-            )),
+            None => {
+                let refusal = Refusal::NotAPack;
+                let cards = ordered_cards();
+                let pack = UncutPack { cards, mark: 16 };
+                Err(BadPack { refusal, pack })
+            }
         }
     }
 

@@ -7,6 +7,7 @@ ghost use Rattle.cards.specs.declared.deck.Card.{Card};
 ghost use Rattle.cards.specs.Deck.{cardNumber};
 ghost use Rattle.cards.specs.Packs.{times};
 use super::deck::Card;
+use super::refusals::Refusal;
 
 // A pack with the mark at which it will be cut.
 #[derive(Drop)]
@@ -23,4 +24,11 @@ pub struct UncutPack {
 pub struct CutPack {
     pub(super) cards: [Card; 32],
     ghost once: { (c : Card) → times (cardNumber c) (map cardNumber cards) ≡ 1 },
+}
+
+// A refusal, with the pack that there is instead.
+#[derive(Drop)]
+pub struct BadPack {
+    pub refusal: Refusal,
+    pub pack: UncutPack,
 }

@@ -11,10 +11,10 @@ ghost-result c =
     let named = c .in-Some .ensures tt in
     ((λ card. ap (times (cardNumber card)) (named .1) ∙ named .2 card), (omega arith, (omega arith, tt)))
 
-pub ghost-result-in-None : need.ghost-result-in-None
-ghost-result-in-None c = (
+pub ghost-pack : need.ghost-pack
+ghost-pack c = (
   (λ card.
-      ap (times (cardNumber card)) (c .ordered-cards .ensures)
+      ap (times (cardNumber card)) (c .ordered-cards-cards .ensures)
       ∙ times-counting (cardNumber card) 0 32 (omega arith) (omega (arith, card-below card))),
   (omega arith, (omega arith, tt)),
 )
