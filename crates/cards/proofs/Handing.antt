@@ -1,27 +1,19 @@
 -- Cards dealt one by one, each to the receiver of its place, for `deal`.
-use mathlib.Core.Path.{_≡_, refl, sym, ap, _∙_}
-use mathlib.Core.List.{List, _∷_, [], map}
+use mathlib.Core.Path.{_≡_, sym, ap, _∙_}
+use mathlib.Core.List.{List, map}
 use Prim.Native.Nat.{ℕ, _+_, _<_}
 use native.Mathlib.Omega.{arith}
 use borrow.Author.Count.{below-more}
-use lib.Chars.{codes}
 use lib.ListN.{length, getD, set}
 use Rattle.std.proofs.shelf.Lists.{getD-map, getD-set-same, getD-set-other, length-map, length-set}
 use Rattle.cards.specs.declared.deck.Card.{Card}
 use Rattle.cards.specs.declared.dealing.Dealt.{Dealt}
 use Rattle.cards.specs.declared.dealing.Dealt.the-variants.{Skat}
 use Rattle.cards.specs.Deck.{cardNumber}
-use Rattle.cards.specs.Dealing.{receiver, receivers, receiverNamed}
+use Rattle.cards.specs.Dealing.{receiver}
 use Rattle.cards.specs.Packs.{times}
 use Rattle.cards.proofs.Cardinals.{card-below}
 use Rattle.cards.proofs.Tallies.{apart}
-
--- the letters F, M, R and S from the top, as the code has them
-abbrev pub letters : List ℕ
-letters = codes "FFFMMMRRRSSFFFFMMMMRRRRFFFMMMRRR"
-
-pub named-right : (place : ℕ) → place < 32 → receiverNamed (getD letters place 0) ≡ receiver place
-named-right place lt = sym (getD-map receiverNamed letters place 0 Skat lt) ∙ refl
 
 -- the cards above this place are dealt
 abbrev pub Sent : List Card → ℕ → List Dealt → Type 0

@@ -2,10 +2,10 @@
 ghost use mathlib.Core.Path.{_≡_};
 ghost use mathlib.Core.List.{map};
 ghost use Prim.Native.Nat.{ℕ, _≤_, _<_};
-ghost use lib.ListN.{length};
+ghost use lib.ListN.{getD, set};
 ghost use Rattle.std.specs.Options.{Cases as BySome};
 ghost use Rattle.std.specs.Results.{isOk};
-ghost use mathlib.Core.Bool.{cond};
+ghost use mathlib.Core.Bool.{cond, not, true, false};
 ghost use Rattle.std.specs.Iters.{counting};
 ghost use Rattle.cards.specs.Deck.{cardNumber};
 ghost use Rattle.cards.specs.Packs.{IsPack, cutAt, markRefusal, times};
@@ -24,6 +24,17 @@ const LOWEST: Card = Card {
     place: Place::Seven,
 };
 
+// Whether a card's number was not seen before; it is now.
+fn is_new(seen: &mut [bool; 32], number: u8) -> bool
+    requires { ⌜ number < 32 ⌝ }
+    ensures answer { λ r. ⌜ r ≡ not (getD (now (seen .entry)) number false) ⌝ }
+    ensures seen { λ _. ⌜ now (seen .exit) ≡ set (now (seen .entry)) number true ⌝ }
+{
+    let before = seen[number as usize];
+    seen[number as usize] = true;
+    !before
+}
+
 // The cards of these numbers, if they are 32 different cards.
 fn named_cards(numbers: &[u8]) -> Option<[Card; 32]>
     ensures { λ r. ⌜ BySome r (IsPack (now (numbers .entry)) → ⊥) (λ cards. IsPack (now (numbers .entry)) × (map cardNumber cards ≡ now (numbers .entry)) × ((c : Card) → times (cardNumber c) (now (numbers .entry)) ≡ 1)) ⌝ }
@@ -38,10 +49,9 @@ fn named_cards(numbers: &[u8]) -> Option<[Card; 32]>
         let Some(card) = Card::from_number(number) else {
             return None;
         };
-        if seen[number as usize] {
+        if !is_new(&mut seen, number) {
             return None;
         }
-        seen[number as usize] = true;
         cards[i] = card;
     }
     Some(cards)

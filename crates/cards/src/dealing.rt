@@ -3,7 +3,7 @@ ghost use mathlib.Core.Path.{_≡_};
 ghost use Prim.Native.Nat.{ℕ, _<_};
 ghost use lib.ListN.{getD};
 ghost use Rattle.cards.specs.Deck.{cardNumber};
-ghost use Rattle.cards.specs.Dealing.{receiverNamed, DealtAs};
+ghost use Rattle.cards.specs.Dealing.{receiver, DealtAs};
 use super::packs::CutPack;
 use super::seats::Seat;
 use super::seats::SeatEq;
@@ -16,18 +16,23 @@ pub enum Dealt {
     Skat,
 }
 
-// Who gets each card, from the top: three for forehand, middlehand and rearhand in turn, two
-// for the skat, four each, three each.
-const ORDER: &[u8; 32] = b"FFFMMMRRRSSFFFFMMMMRRRRFFFMMMRRR";
-
-fn named_receiver(letter: u8) -> Dealt
-    ensures { λ r. ⌜ r ≡ receiverNamed letter ⌝ }
+// Who gets the card that stands at this place from the top: three each, two for the skat,
+// four each, three each.
+fn receiver_of(place: usize) -> Dealt
+    requires { ⌜ place < 32 ⌝ }
+    ensures { λ r. ⌜ r ≡ receiver place ⌝ }
 {
-    match letter {
-        b'F' => Dealt::Hand(Seat::Forehand),
-        b'M' => Dealt::Hand(Seat::Middlehand),
-        b'R' => Dealt::Hand(Seat::Rearhand),
-        _ => Dealt::Skat,
+    match place {
+        0..=2 => Dealt::Hand(Seat::Forehand),
+        3..=5 => Dealt::Hand(Seat::Middlehand),
+        6..=8 => Dealt::Hand(Seat::Rearhand),
+        9..=10 => Dealt::Skat,
+        11..=14 => Dealt::Hand(Seat::Forehand),
+        15..=18 => Dealt::Hand(Seat::Middlehand),
+        19..=22 => Dealt::Hand(Seat::Rearhand),
+        23..=25 => Dealt::Hand(Seat::Forehand),
+        26..=28 => Dealt::Hand(Seat::Middlehand),
+        _ => Dealt::Hand(Seat::Rearhand),
     }
 }
 
@@ -40,7 +45,7 @@ impl CutPack {
         let CutPack { cards } = self;
         let mut dealt = [Dealt::Skat; 32];
         for place in 0..32 {
-            dealt[cards[place].number() as usize] = named_receiver(ORDER[place]);
+            dealt[cards[place].number() as usize] = receiver_of(place);
         }
         dealt
     }

@@ -1,9 +1,23 @@
 // The first of several things, under any order.
 ghost use mathlib.Core.Path.{_≡_};
-ghost use lib.ListN.{length};
+ghost use mathlib.Core.Bool.{cond};
+ghost use Prim.Native.Nat.{_<_};
+ghost use lib.ListN.{length, getD};
 ghost use Rattle.std.specs.Options.{Cases};
 ghost use Rattle.cards.specs.First.{IsFirst};
 use super::order::Order;
+
+// The later of two places if its item is ahead of the other's, else the earlier.
+fn leader<O: Order>(order: &O, items: &[O::Item], best: usize, i: usize) -> usize
+    requires { ⌜ best < length (now items) ⌝ ∗ ⌜ i < length (now items) ⌝ }
+    ensures { λ r. ⌜ ((d : O·Item) → r ≡ cond (O·Order .ahead (now (order .entry)) (getD (now (items .entry)) i d) (getD (now (items .entry)) best d)) i best) ⌝ }
+{
+    if order.ahead(&items[i], &items[best]) {
+        i
+    } else {
+        best
+    }
+}
 
 // Where the earliest item stands that none is ahead of; none of none.
 pub fn first<O: Order>(order: &O, items: &[O::Item]) -> Option<usize>
@@ -14,9 +28,7 @@ pub fn first<O: Order>(order: &O, items: &[O::Item]) -> Option<usize>
     }
     let mut best = 0;
     for i in 1..items.len() {
-        if order.ahead(&items[i], &items[best]) {
-            best = i;
-        }
+        best = leader(order, items, best, i);
     }
     Some(best)
 }

@@ -26,9 +26,13 @@ noEntry = record { rating = record { 0 = pos 0 }; won = 0; lost = 0 }
 abbrev pub isAheadOf : Entry → Entry → Bool
 isAheadOf entry other = isAhead other entry
 
+-- How many entries are ahead of the one that stands at i.
+abbrev pub numberAhead : List Entry → ℕ → ℕ
+numberAhead entries i = countBy (isAheadOf (getD entries i noEntry)) entries
+
 -- Rank is 1 plus the number of entries ahead.
 abbrev pub rankAt : List Entry → ℕ → ℕ
-rankAt entries i = 1 + countBy (isAheadOf (getD entries i noEntry)) entries
+rankAt entries i = 1 + numberAhead entries i
 
 -- The rank of an entry, or 27 where it is not there.
 abbrev pub rankAnswer : List Entry → ℕ → Result ℕ Refusal

@@ -1,10 +1,13 @@
 // The report on the file of a list.
 ghost use mathlib.Core.Path.{_≡_};
+ghost use mathlib.Core.List.{_++_};
+ghost use lib.Chars.{codes};
 ghost use Rattle.std.specs.Iters.{counting};
 ghost use Rattle.std.specs.Joined.{joined};
 ghost use Rattle.std.specs.Of.String.{string-bytes};
 ghost use Rattle.std.specs.Of.Vec.{vec-items};
 ghost use Rattle.std.specs.Vec.{made};
+ghost use Rattle.std.specs.Written.{decimal};
 ghost use Rattle.series.specs.Rows.{placesNumber};
 ghost use Rattle.ranking.specs.Reports.{entriesOf, lineText, placeText, IsStanding, IsReport};
 use super::standings::Entry;
@@ -64,6 +67,13 @@ fn lines(heap: Global, list: &ClosedList, entries: &[Entry]) -> Result<String, A
     Ok(text)
 }
 
+// The lines with one more, the place that is first.
+fn with_first(heap: Global, lines: &String, first: usize) -> Result<String, AllocError>
+    ensures { λ r. ⌜ made r (λ text. string-bytes text ≡ string-bytes (now (lines .entry)) ++ (decimal first ++ codes "\n")) ⌝ }
+{
+    format!(heap, "{lines}{first}\n")
+}
+
 // The standing of a list: the lines of all places, and the place that is first.
 fn standing(heap: Global, list: &ClosedList) -> Result<String, AllocError>
     ensures { λ r. ⌜ made r (λ text. IsStanding (placesNumber (now (list .entry) .sheet .places)) (vec-items (now (list .entry) .sheet .rows)) (string-bytes text)) ⌝ }
@@ -73,7 +83,7 @@ fn standing(heap: Global, list: &ClosedList) -> Result<String, AllocError>
     let Some(first) = first_entry(entries.as_slice()) else {
         unreachable()
     };
-    format!(heap, "{lines}{first}\n")
+    with_first(heap, &lines, first)
 }
 
 // The report on a file: the standing of the list whose file it is, or the number of the

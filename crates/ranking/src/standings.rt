@@ -1,10 +1,10 @@
 // The standing of several places: who is ahead of whom, and which rank that gives.
 ghost use mathlib.Core.Path.{_≡_};
-ghost use Prim.Native.Nat.{ℕ, _<_};
+ghost use Prim.Native.Nat.{_<_, _≤_};
 ghost use lib.ListN.{length};
 ghost use Rattle.std.specs.Options.{Cases};
 ghost use Rattle.cards.specs.First.{IsFirst};
-ghost use Rattle.ranking.specs.Standings.{isAhead, rankAnswer, LeadsAlone};
+ghost use Rattle.ranking.specs.Standings.{isAhead, numberAhead, rankAnswer, LeadsAlone};
 use cards::first::first;
 use cards::order::Order;
 use cards::refusals::Refusal;
@@ -40,6 +40,21 @@ pub impl Order for ByRating as EntryOrder {
     }
 }
 
+// How many entries are ahead of the one at i.
+fn count_ahead(entries: &[Entry], i: usize) -> usize
+    requires { ⌜ i < length (now entries) ⌝ }
+    ensures value { λ r. ⌜ r ≡ numberAhead (now (entries .entry)) i ⌝ }
+    ensures bound { λ r. ⌜ r ≤ length (now (entries .entry)) ⌝ }
+{
+    let mut ahead = 0;
+    for k in 0..entries.len() {
+        if ByRating.ahead(&entries[k], &entries[i]) {
+            ahead += 1;
+        }
+    }
+    ahead
+}
+
 // The rank of an entry: 1 and one more for each entry ahead of it.
 pub fn rank(entries: &[Entry], i: usize) -> Result<usize, Refusal>
     ensures { λ r. ⌜ r ≡ rankAnswer (now (entries .entry)) i ⌝ }
@@ -47,13 +62,7 @@ pub fn rank(entries: &[Entry], i: usize) -> Result<usize, Refusal>
     if i >= entries.len() {
         return Err(Refusal::NoSuchEntry);
     }
-    let mut ahead = 0;
-    for k in 0..entries.len() {
-        if ByRating.ahead(&entries[k], &entries[i]) {
-            ahead += 1;
-        }
-    }
-    Ok(1 + ahead)
+    Ok(1 + count_ahead(entries, i))
 }
 
 // Where the first entry stands: the earliest that none is ahead of.

@@ -3,6 +3,7 @@ use mathlib.Core.Path.{_≡_, refl, sym, ap, subst, _∙_}
 use mathlib.Core.Bool.{Bool, true, false, cond, not, _&&_, _||_}
 use mathlib.Core.List.{List, [], _∷_, _++_, map}
 use Prim.Native.Nat.{ℕ, _+_, _-_, _*_, _/_, _%_, _<_, _≤_}
+use native.Mathlib.Nat.{sub-zero}
 use native.Mathlib.Omega.{arith}
 use lib.Dec.{eqb, ltb, leb}
 use lib.ListN.{length, getD, take, drop}
@@ -10,8 +11,8 @@ use Rattle.std.specs.Joined.{joined}
 use Rattle.std.specs.shelf.Lists.{countBy}
 use Rattle.std.specs.declared.option.Option.{Option}
 use Rattle.std.specs.declared.option.Option.the-variants.{Some, None}
-use Rattle.std.proofs.shelf.Lists.{drop-more, drop-at, take-rest, getD-drop, length-drop, length-take-le}
-use Rattle.std.proofs.shelf.Tests.{and-parts, and-from, not-false, ltb-false, leb-true, eqb-true, le-ltb, le-leb, eq-eqb, ne-eqb}
+use Rattle.std.proofs.shelf.Lists.{drop-more, drop-at, getD-drop, length-drop, length-take-le}
+use Rattle.std.proofs.shelf.Tests.{and-parts, and-from, not-false, ltb-false, leb-true, eqb-true, eqb-false, le-ltb, le-leb, eq-eqb, ne-eqb}
 use Rattle.std.proofs.shelf.Sums.{countBy-le-length}
 use Rattle.cards.specs.declared.refusals.Refusal.{Refusal}
 use Rattle.cards.specs.declared.refusals.Refusal.the-variants.{FileTooShort, BadTag, NotAList, BadRow, BadGames}
@@ -220,23 +221,20 @@ file-same p q r s good fine e = (
 )
 
 -- a file whose header stands, read from its offset on
-module _ (file : List ℕ) (small : (i : ℕ) → getD file i 0 < 256) (ok : topmost (headerRefusals file) ≡ None) (offset count : ℕ) (from : offset ≡ offsetField file) (n : count ≡ rowsField file) where
-  abbrev pub partOf : List ℕ
-  partOf = take (length file - offset) (drop offset file)
+module _ (file : List ℕ) (small : (i : ℕ) → getD file i 0 < 256) (ok : topmost (headerRefusals file) ≡ None) (part : List ℕ) (offset count : ℕ) (is : part ≡ drop offset file) (from : offset ≡ offsetField file) (n : count ≡ rowsField file) where
+  in-part : rawRows part ≡ rowsIn file
+  in-part = ap rawRows (is ∙ ap (λ k. drop k file) from)
 
-  in-part : rawRows partOf ≡ rowsIn file
-  in-part = ap rawRows (take-rest file offset ∙ ap (λ k. drop k file) from)
-
-  part-rows : length partOf / 4 ≡ count
+  part-rows : length part / 4 ≡ count
   part-rows =
       let facts = header-facts file ok in
-      let long : length partOf ≡ length file - offset = ap length (take-rest file offset) ∙ length-drop offset file in
+      let long : length part ≡ length file - offset = ap length is ∙ length-drop offset file in
       omega (arith, facts .offset, facts .rows, facts .whole)
 
-  pub part-refused : areRawRows (rawRows partOf) ≡ false → fileRefusal file ≡ Some BadRow
+  pub part-refused : areRawRows (rawRows part) ≡ false → fileRefusal file ≡ Some BadRow
   part-refused bad = rows-refused file ok (ap areRawRows (sym in-part) ∙ bad)
 
-  module _ (rows : List Row) (room : length rows ≡ 48) (read : (rawRows partOf ≡ map rawOf (take (length partOf / 4) rows)) × (areRows (take (length partOf / 4) rows) ≡ true)) (played stated : ℕ) (counted : played ≡ games (take count rows)) (said : stated ≡ gamesField file) where
+  module _ (rows : List Row) (room : length rows ≡ 48) (read : (rawRows part ≡ map rawOf (take (length part / 4) rows)) × (areRows (take (length part / 4) rows) ≡ true)) (stated : ℕ) {right : Bool} (told : right ≡ eqb (games (take (count - 0) rows)) stated) (said : stated ≡ gamesField file) where
     rows-are : rowsIn file ≡ map rawOf (take count rows)
     rows-are = sym in-part ∙ (read .0 ∙ ap (λ k. map rawOf (take k rows)) part-rows)
 
@@ -246,20 +244,24 @@ module _ (file : List ℕ) (small : (i : ℕ) → getD file i 0 < 256) (ok : top
     good : areRawRows (rowsIn file) ≡ true
     good = ap areRawRows rows-are ∙ raws-good (take count rows) rows-good
 
-    raw-played : countBy isRawGame (rowsIn file) ≡ played
-    raw-played = ap (countBy isRawGame) rows-are ∙ (raw-games (take count rows) ∙ sym counted)
+    raw-played : countBy isRawGame (rowsIn file) ≡ games (take (count - 0) rows)
+    raw-played = ap (countBy isRawGame) rows-are ∙ (raw-games (take count rows) ∙ ap (λ k. games (take k rows)) (sym (sub-zero count)))
 
-    pub games-differ : (played ≡ stated → ⊥) → fileRefusal file ≡ Some BadGames
-    games-differ differ = games-refused file ok good (ne-eqb (gamesField file) (countBy isRawGame (rowsIn file)) (λ e. differ (sym raw-played ∙ (sym e ∙ sym said))))
+    pub games-differ : right ≡ false → fileRefusal file ≡ Some BadGames
+    games-differ wrong =
+        let differ = eqb-false _ _ (sym told ∙ wrong) in
+        games-refused file ok good (ne-eqb (gamesField file) (countBy isRawGame (rowsIn file)) (λ e. differ (sym raw-played ∙ (sym e ∙ sym said))))
 
-    pub list-read : (places : Places) → placesNumber places ≡ getD file 4 0 → played ≡ stated → (fileRefusal file ≡ None) × (count ≤ 48) × (areRows (take count rows) ≡ true) × (fileOf places (take count rows) ≡ file)
-    list-read places seats same =
+    pub list-read : (places : Places) → placesNumber places ≡ getD file 4 0 → right ≡ true → (fileRefusal file ≡ None) × (count ≤ 48) × (areRows (take count rows) ≡ true) × (fileOf places (take count rows) ≡ file)
+    list-read places seats yes-games =
         let facts = header-facts file ok in
-        let few : count ≤ 48 = omega (arith, facts .few) in (
+        let few : count ≤ 48 = omega (arith, facts .few) in
+        let same = eqb-true _ _ (sym told ∙ yes-games) in
+        let played : games (take count rows) ≡ gamesField file = ap (λ k. games (take k rows)) (sym (sub-zero count)) ∙ (same ∙ said) in (
           accepted file ok good (eq-eqb (gamesField file) (countBy isRawGame (rowsIn file)) (sym said ∙ (sym same ∙ sym raw-played))),
           few,
           rows-good,
-          read-is file small facts places (take count rows) seats (length-take-le count rows (omega arith) ∙ n) rows-are (sym counted ∙ (same ∙ said)),
+          read-is file small facts places (take count rows) seats (length-take-le count rows (omega arith) ∙ n) rows-are played,
         )
 
 -- what was written is read back

@@ -57,9 +57,13 @@ header places rows games =
 abbrev pub fileOf : Places → List Row → List ℕ
 fileOf places rows = header (placesNumber places) (length rows) (games rows) ++ joined rowBytes rows
 
--- A file written into a buffer: it fills the front and leaves the rest; a buffer that is too short is left whole.
+-- What a buffer holds after a file was written into its front.
+abbrev pub written : List ℕ → List ℕ → List ℕ
+written file before = file ++ drop (length file) before
+
+-- A file written into a buffer, and how many bytes that were; a buffer that is too short is left whole.
 abbrev pub Written : List ℕ → List ℕ → List ℕ → Result ℕ Refusal → Type 0
-Written file before after (Ok written) = (written ≡ length file) × (length file ≤ length before) × (after ≡ file ++ drop (length file) before)
+Written file before after (Ok count) = (count ≡ length file) × (length file ≤ length before) × (after ≡ written file before)
 Written file before after (Err refusal) = (refusal ≡ BufferTooShort) × (length before < length file) × (after ≡ before)
 
 -- The numbers that two and four bytes hold from a place on, low byte first.

@@ -1,9 +1,12 @@
 // Opening a list, entering rows on it and closing it.
 ghost use mathlib.Core.Path.{_≡_};
+ghost use mathlib.Core.Bool.{true};
+ghost use mathlib.Core.List.{[], _∷_, _++_};
+ghost use Prim.Native.Nat.{_<_};
 ghost use Rattle.std.specs.Results.{Cases};
 ghost use Rattle.std.specs.Of.Vec.{vec-items, vec-len};
 ghost use Rattle.cards.specs.Refusals.{answered};
-ghost use Rattle.series.specs.Rows.{entryRefusal, Entered};
+ghost use Rattle.series.specs.Rows.{isRow, entryRefusal, Entered};
 ghost use Rattle.series.specs.Opening.{Opened};
 use super::lists::ClosedList;
 use super::lists::NotOpened;
@@ -16,6 +19,17 @@ use cards::units::GamePoints;
 use std::alloc::Global;
 
 const MOST_ROWS: usize = 48;
+
+impl Sheet {
+    // Adds a row at the end, for which there is room.
+    fn add(&mut self, row: Row)
+        requires { ⌜ vec-len (now self .rows) < 48 ⌝ ∗ ⌜ isRow row ≡ true ⌝ }
+        ensures places { λ _. ⌜ now (self .exit) .places ≡ now (self .entry) .places ⌝ }
+        ensures rows { λ _. ⌜ vec-items (now (self .exit) .rows) ≡ vec-items (now (self .entry) .rows) ++ row ∷ [] ⌝ }
+    {
+        self.rows.push_reserved(row);
+    }
+}
 
 impl OpenList {
     // An empty list of so many places, or a refusal with an empty list of three.
@@ -51,7 +65,7 @@ impl OpenList {
             return Err(Refusal::ListFull);
         }
         let row = Row::new(role, points)?;
-        self.sheet.rows.push_reserved(row);
+        self.sheet.add(row);
         Ok(())
     }
 

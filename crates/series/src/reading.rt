@@ -2,13 +2,14 @@
 ghost use mathlib.Core.Path.{_≡_};
 ghost use mathlib.Core.Bool.{true, false};
 ghost use Prim.Native.Nat.{_+_, _*_, _/_, _<_, _≤_};
-ghost use lib.ListN.{length, getD, take};
+ghost use lib.Dec.{eqb};
+ghost use lib.ListN.{length, getD, take, drop};
 ghost use mathlib.Core.List.{map};
 ghost use Rattle.std.specs.Of.Vec.{vec-items};
 ghost use Rattle.std.specs.Options.{Cases as BySome};
 ghost use Rattle.std.specs.declared.option.Option.the-variants.{Some, None};
 ghost use Rattle.cards.specs.Refusals.{answered};
-ghost use Rattle.series.specs.Format.{twoAt, fourAt, rowsField, gamesField, offsetField, isTag, isRawRow, areRawRows, rawAt, rawOf, rawRows, HeaderRead, FileRead, fileRefusal, ListRead, ReadBack};
+ghost use Rattle.series.specs.Format.{games as gamesOf, twoAt, fourAt, rowsField, gamesField, offsetField, isTag, isRawRow, areRawRows, rawAt, rawOf, rawRows, HeaderRead, FileRead, fileRefusal, ListRead, ReadBack};
 ghost use Rattle.series.specs.Rows.{placesNumber, isRow, areRows};
 use super::lists::ClosedList;
 use super::lists::Sheet;
@@ -137,6 +138,22 @@ impl Sheet {
     }
 }
 
+// The part of a file from the offset of its rows on.
+fn rows_part(file: &[u8], offset: usize) -> &[u8]
+    requires { ⌜ offset ≤ length (now file) ⌝ }
+    ensures { λ r. ⌜ now r ≡ drop offset (now (file .entry)) ⌝ }
+{
+    let (_, rows) = file.split_at(offset);
+    rows
+}
+
+// Whether a header that says so many games is right about these rows.
+fn are_games(rows: &[Row], games: usize) -> bool
+    ensures { λ r. ⌜ r ≡ eqb (gamesOf (now (rows .entry))) games ⌝ }
+{
+    count_games(rows) == games
+}
+
 // The places and rows of the list whose file this is.
 fn read_list(file: &[u8]) -> Result<Listed, Refusal>
     ensures { λ r. ⌜ FileRead (now (file .entry)) r ⌝ }
@@ -147,10 +164,10 @@ fn read_list(file: &[u8]) -> Result<Listed, Refusal>
         games,
         offset,
     } = read_header(file)?;
-    let Some(rows) = read_rows(&file[offset..]) else {
+    let Some(rows) = read_rows(rows_part(file, offset)) else {
         return Err(Refusal::BadRow);
     };
-    if count_games(&rows[0..count]) != games {
+    if !are_games(&rows[0..count], games) {
         return Err(Refusal::BadGames);
     }
     Ok(Listed {

@@ -7,9 +7,10 @@ ghost use lib.ListN.{length, drop};
 ghost use Rattle.std.specs.Of.Vec.{vec-items, vec-len};
 ghost use Rattle.std.specs.Joined.{joined};
 ghost use Rattle.std.specs.Results.{Cases};
-ghost use Rattle.series.specs.Format.{games, header, rowBytes, fileOf, Written};
+ghost use Rattle.series.specs.Format.{games, header, rowBytes, fileOf, written, Written};
 ghost use Rattle.series.specs.Rows.{placesNumber, roleNumber, isRow, areRows, isGame};
 use super::lists::ClosedList;
+use super::lists::Sheet;
 use super::rows::Places;
 use super::rows::Row;
 use cards::refusals::Refusal;
@@ -87,14 +88,42 @@ fn header_bytes(places: Places, rows: usize, games: usize) -> [u8; 16]
     ]
 }
 
+// Writes a row's bytes.
+fn write_row(row: Row, buffer: &mut [u8])
+    requires { ⌜ length (now buffer) ≡ 4 ⌝ ∗ ⌜ isRow row ≡ true ⌝ }
+    ensures { λ _. ⌜ now (buffer .exit) ≡ rowBytes row ⌝ }
+{
+    let bytes = row_bytes(row);
+    buffer.copy_from_slice(&bytes);
+}
+
 // Writes the rows' bytes into the front of the buffer.
 fn write_rows(rows: &[Row], buffer: &mut [u8])
     requires { ⌜ 4 * length (now rows) ≤ length (now buffer) ⌝ ∗ ⌜ areRows (now rows) ≡ true ⌝ }
     ensures { λ _. ⌜ now (buffer .exit) ≡ joined rowBytes (now (rows .entry)) ++ drop (4 * length (now (rows .entry))) (now (buffer .entry)) ⌝ }
 {
     for i in 0..rows.len() {
-        let bytes = row_bytes(rows[i]);
-        buffer[4 * i..4 * i + 4].copy_from_slice(&bytes);
+        write_row(rows[i], &mut buffer[4 * i..4 * i + 4]);
+    }
+}
+
+impl Sheet {
+    // How many bytes the list's file has.
+    fn file_length(&self) -> usize
+        ensures { λ r. ⌜ r ≡ length (fileOf (now (self .entry) .places) (vec-items (now (self .entry) .rows))) ⌝ }
+    {
+        16 + 4 * self.rows.len()
+    }
+
+    // Writes the list's file into the front of the buffer, where it fits.
+    fn fill(&self, buffer: &mut [u8])
+        requires { ⌜ length (fileOf (now self .places) (vec-items (now self .rows))) ≤ length (now buffer) ⌝ }
+        ensures { λ _. ⌜ now (buffer .exit) ≡ written (fileOf (now (self .entry) .places) (vec-items (now (self .entry) .rows))) (now (buffer .entry)) ⌝ }
+    {
+        let rows = self.rows.as_slice();
+        let header = header_bytes(self.places, rows.len(), count_games(rows));
+        buffer[0..16].copy_from_slice(&header);
+        write_rows(rows, &mut buffer[16..]);
     }
 }
 
@@ -103,14 +132,11 @@ impl ClosedList {
     pub fn write(&self, buffer: &mut [u8]) -> Result<usize, Refusal>
         ensures { λ r. ⌜ Written (fileOf (now (self .entry) .sheet .places) (vec-items (now (self .entry) .sheet .rows))) (now (buffer .entry)) (now (buffer .exit)) r ⌝ }
     {
-        let rows = self.sheet.rows.as_slice();
-        let length = 16 + 4 * rows.len();
+        let length = self.sheet.file_length();
         if buffer.len() < length {
             return Err(Refusal::BufferTooShort);
         }
-        let header = header_bytes(self.sheet.places, rows.len(), count_games(rows));
-        buffer[0..16].copy_from_slice(&header);
-        write_rows(rows, &mut buffer[16..]);
+        self.sheet.fill(buffer);
         Ok(length)
     }
 }

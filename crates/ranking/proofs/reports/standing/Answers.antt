@@ -19,6 +19,6 @@ returns c =
     c .as-slice-2 .ensures .value ∙ c .in-Continue-entries .ensures tt in
     let P : List Entry → Type 0 = λ es. IsFirst isAhead es first × LeadsAlone es first in
     let led = subst P slice (c .in-Some .ensures tt) in
-    made-weaker (c .format .result) _ _
+    made-weaker (c .with-first .result) _ _
     (λ text h. (first, led .0, led .1, h ∙ ap (λ bytes. bytes ++ (decimal first ++ codes "\n")) (c .in-Continue-lines .ensures tt)))
-    (c .format .ensures .made)
+    (c .with-first .ensures)

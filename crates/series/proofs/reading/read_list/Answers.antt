@@ -19,15 +19,15 @@ returns-in-rest c =
     let file = c .args .file .now in
     let head = c .in-Continue-places .ensures tt in
     let small : (i : ℕ) → getD file i 0 < 256 = λ i. omega (arith, c .typed .file i) in
-    part-refused file small (head .0) _ _ (head .4) (head .2) (c .in-rest .ensures tt)
+    part-refused file small (head .0) _ _ _ (c .rows-part .ensures) (head .4) (head .2) (c .in-rest .ensures tt)
 
-pub returns-then-count-games-games : need.returns-then-count-games-games
-returns-then-count-games-games c =
+pub returns-then-not-are-games : need.returns-then-not-are-games
+returns-then-not-are-games c =
     let file = c .args .file .now in
     let head = c .in-Continue-places .ensures tt in
     let small : (i : ℕ) → getD file i 0 < 256 = λ i. omega (arith, c .typed .file i) in
     let room : length (c .in-Some .rows) ≡ 48 = search needs in
-    games-differ file small (head .0) _ _ (head .4) (head .2) (c .in-Some .rows) room (c .in-Some .ensures tt) (c .count-games .result) _ (c .count-games .ensures .value ∙ ap (λ k. games (take k (c .in-Some .rows))) (sub-zero _)) (head .3) (c .if-count-games-games .taken)
+    games-differ file small (head .0) _ _ _ (c .rows-part .ensures) (head .4) (head .2) (c .in-Some .rows) room (c .in-Some .ensures tt) _ (c .are-games .ensures) (head .3) (c .if-not-are-games .taken)
 
 pub returns : need.returns
 returns c =
@@ -35,4 +35,4 @@ returns c =
     let head = c .in-Continue-places .ensures tt in
     let small : (i : ℕ) → getD file i 0 < 256 = λ i. omega (arith, c .typed .file i) in
     let room : length (c .in-Some .rows) ≡ 48 = search needs in
-    list-read file small (head .0) _ _ (head .4) (head .2) (c .in-Some .rows) room (c .in-Some .ensures tt) (c .count-games .result) _ (c .count-games .ensures .value ∙ ap (λ k. games (take k (c .in-Some .rows))) (sub-zero _)) (head .3) _ (head .1) (c .if-count-games-games .left)
+    list-read file small (head .0) _ _ _ (c .rows-part .ensures) (head .4) (head .2) (c .in-Some .rows) room (c .in-Some .ensures tt) _ (c .are-games .ensures) (head .3) _ (head .1) (c .if-not-are-games .left)

@@ -4,18 +4,18 @@ use Prim.Native.Nat.{_*_}
 use native.Mathlib.Omega.{arith}
 use lib.ListN.{length, take, drop}
 use Rattle.std.specs.Joined.{joined}
-use Rattle.std.proofs.shelf.Lists.{take-all}
+use Rattle.std.proofs.shelf.Lists.{take-all, length-take, length-drop}
 use Rattle.series.specs.Format.{rowBytes}
 use Rattle.series.proofs.Blocks.{row-put}
 use Rattle.series.proofs.Counting.{row-at}
 use Rattle.series.proofs.writing.write_rows.Needs as need
 
-pub row-bytes-bytes-requires : need.row-bytes-bytes-requires
-row-bytes-bytes-requires c κs = row-at (c .args .rows .now) _ _ (c .pre .1) (c .loop-i-test .taken)
+pub write-row-requires : need.write-row-requires
+write-row-requires c κs = (simp (length-take, length-drop) (omega (arith, c .pre .0)), row-at (c .args .rows .now) _ _ (c .pre .1) (c .loop-i-test .taken))
 
 pub loop-i-again : need.loop-i-again
 loop-i-again c =
-    row-put (c .args .rows .now) (c .args .buffer .now) (c .loop-i .buffer) (c .copy-from-slice .last .self) _ _ (c .loop-i-test .taken) (c .loop-i .inv) (c .copy-from-slice .ensures .after ∙ c .row-bytes-bytes .ensures)
+    row-put (c .args .rows .now) (c .args .buffer .now) (c .loop-i .buffer) (c .write-row .last .buffer) _ _ (c .loop-i-test .taken) (c .loop-i .inv) (c .write-row .ensures)
 
 pub returns : need.returns
 returns c =

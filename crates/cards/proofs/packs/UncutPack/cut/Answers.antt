@@ -9,6 +9,6 @@ pub ghost-result : need.ghost-result
 ghost-result c = (
   (λ card.
       ap (λ cards. times (cardNumber card) (map cardNumber cards)) (c .rotate-left .ensures .after)
-      ∙ (times-cut cardNumber (cardNumber card) (c .args .self .mark) (c .args .self .cards) ∙ c .args .self .once card)),
+      ∙ (times-cut cardNumber (cardNumber card) _ (c .args .self .cards) ∙ c .args .self .once card)),
   tt,
 )

@@ -2,9 +2,8 @@ use native.Mathlib.Omega.{arith}
 use lib.ListN.{getD}
 use Rattle.std.proofs.shelf.Lists.{take-all}
 use Rattle.std.proofs.shelf.Sums.{countBy-more-yes, countBy-more-no}
-use Rattle.std.proofs.shelf.Ways.{tells}
 use Rattle.ranking.specs.Standings.{isAheadOf, noEntry}
-use Rattle.ranking.proofs.standings.rank.Needs as need
+use Rattle.ranking.proofs.standings.count_ahead.Needs as need
 
 pub loop-k-again : need.loop-k-again
 loop-k-again c =
@@ -12,4 +11,4 @@ loop-k-again c =
     grind (arith, countBy-more-yes test, countBy-more-no test)
 
 pub returns : need.returns
-returns c = grind (arith, tells, take-all)
+returns c = record { value = grind (arith, take-all); bound = omega arith }
