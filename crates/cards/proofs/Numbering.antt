@@ -9,7 +9,7 @@ use lib.ListN.{length, getD, set, take, replicate}
 use lib.Dec.{eqb}
 use Rattle.std.specs.shelf.Lists.{All, countBy}
 use Rattle.std.proofs.shelf.Elements.{all-getD, all-more}
-use Rattle.std.proofs.shelf.Lists.{getD-set-same, getD-set-other, getD-past, getD-default, getD-replicate, length-set, map-more, map-push, take-more, take-more-set, take-all, take-set}
+use Rattle.std.proofs.shelf.Lists.{getD-set-same, getD-set-other, getD-past, getD-replicate, length-set, map-push, take-more, take-more-set, take-all}
 use Rattle.std.proofs.shelf.Sums.{sumBy-cons, sumBy-more, sumBy-set, sumBy-take-le, countBy-le-length}
 use Rattle.std.proofs.shelf.Tests.{cases-eq, cases-lt, eq-eqb, ne-eqb}
 use Rattle.cards.specs.declared.deck.Card.{Card}

@@ -1,8 +1,6 @@
 // Dealing a pack that was cut.
 ghost use mathlib.Core.Path.{_≡_};
-ghost use Prim.Native.Nat.{ℕ, _<_};
-ghost use lib.ListN.{getD};
-ghost use Rattle.cards.specs.Deck.{cardNumber};
+ghost use Prim.Native.Nat.{_<_};
 ghost use Rattle.cards.specs.Dealing.{receiver, DealtAs};
 use super::packs::CutPack;
 use super::seats::Seat;

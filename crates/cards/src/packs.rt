@@ -2,7 +2,7 @@
 // before it is dealt, and dealt once.
 ghost use mathlib.Core.Path.{_≡_};
 ghost use mathlib.Core.List.{map};
-ghost use Prim.Native.Nat.{ℕ, _≤_, _<_};
+ghost use Prim.Native.Nat.{_≤_};
 ghost use Rattle.cards.specs.declared.deck.Card.{Card};
 ghost use Rattle.cards.specs.Deck.{cardNumber};
 ghost use Rattle.cards.specs.Packs.{times};

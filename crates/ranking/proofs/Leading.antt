@@ -1,5 +1,5 @@
 -- The first entry is the earliest of rank 1, for `first_entry`.
-use mathlib.Core.Path.{_≡_, refl, sym, ap, _∙_}
+use mathlib.Core.Path.{_≡_, refl, ap, _∙_}
 use mathlib.Core.Bool.{Bool, true, false, cond}
 use mathlib.Core.List.{List, [], _∷_}
 use Prim.Native.Nat.{ℕ, zero, suc, _+_, _<_}
@@ -11,9 +11,9 @@ use Rattle.std.proofs.shelf.Sums.{sumBy-cons}
 use Rattle.std.specs.Options.{Cases}
 use Rattle.std.specs.declared.option.Option.{Option}
 use Rattle.std.specs.declared.option.Option.the-variants.{Some, None}
-use Rattle.cards.specs.First.{IsFirst, NoneAhead}
+use Rattle.cards.specs.First.{IsFirst}
 use Rattle.ranking.specs.declared.standings.Entry.{Entry}
-use Rattle.ranking.specs.Standings.{isAhead, isAheadOf, noEntry, rankAt, LeadsAlone}
+use Rattle.ranking.specs.Standings.{isAhead, isAheadOf, noEntry, LeadsAlone}
 
 module _ {A : Type 0} (test : A → Bool) where
   count-cons : (x : A) (xs : List A) → countBy test (x ∷ xs) ≡ cond (test x) 1 0 + countBy test xs

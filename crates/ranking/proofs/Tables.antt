@@ -1,6 +1,6 @@
 -- The entries of a list's places, and the totals and rank behind each, for the report.
 use mathlib.Core.Path.{_≡_, refl, sym, ap, subst, _∙_}
-use mathlib.Core.Bool.{true, cond}
+use mathlib.Core.Bool.{cond}
 use mathlib.Core.List.{List, [], _∷_, _++_, map}
 use Prim.Native.Nat.{ℕ, _+_, _<_}
 use native.Mathlib.Omega.{arith}
@@ -16,14 +16,13 @@ use Rattle.std.proofs.shelf.Counted.{map-counting-more, length-map-counting}
 use Rattle.std.proofs.shelf.Lists.{joined-more, map-id}
 use Rattle.std.proofs.shelf.Tests.{lt-ltb}
 use Rattle.cards.specs.declared.refusals.Refusal.{Refusal}
-use Rattle.cards.specs.declared.refusals.Refusal.the-variants.{NoSuchEntry}
 use Rattle.cards.specs.Refusals.{answered}
 use Rattle.series.specs.declared.rows.Places.{Places}
 use Rattle.series.specs.declared.rows.Row.{Row}
 use Rattle.series.specs.declared.totals.Totals.{Totals}
 use Rattle.series.specs.Format.{fileOf, fileRefusal}
 use Rattle.series.specs.Rows.{placesNumber}
-use Rattle.series.specs.Totals.{totalsOf, totalsAnswer}
+use Rattle.series.specs.Totals.{totalsOf}
 use Rattle.ranking.specs.declared.standings.Entry.{Entry}
 use Rattle.ranking.specs.Reports.{entryOf, entryFor, entriesOf, IsStanding, IsReport, ReportBy}
 

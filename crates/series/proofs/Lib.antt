@@ -1,6 +1,7 @@
 mod Blocks
 mod Counting
 mod Filing
+mod Headers
 mod Pushes
 mod Raws
 mod Rounds

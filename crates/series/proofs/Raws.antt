@@ -7,9 +7,7 @@ use lib.ListN.{length, getD, set, take, drop, replicate}
 use Rattle.std.proofs.shelf.Lists.{drop-more, append-assoc, append-nil, length-set, length-drop, map-push, take-more-set}
 use Rattle.std.proofs.shelf.Tests.{and-left, and-right}
 use native.Mathlib.Omega.{arith}
-use lib.IntN.{ℤ}
-use Rattle.std.specs.declared.option.Option.{Option}
-use Rattle.std.specs.declared.option.Option.the-variants.{Some, None}
+use Rattle.std.specs.declared.option.Option.the-variants.{Some}
 use Rattle.cards.specs.declared.refusals.Refusal.{Refusal}
 use Rattle.cards.specs.declared.refusals.Refusal.the-variants.{NoSuchRole, BadPoints}
 use Rattle.cards.specs.Refusals.{topmost}

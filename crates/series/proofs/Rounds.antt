@@ -1,12 +1,11 @@
 -- From a row to its bytes and back, for `read`.
-use mathlib.Core.Path.{_≡_, refl, sym, ap, subst, _∙_}
-use mathlib.Core.Bool.{Bool, true, false, cond, not, _&&_, _||_}
+use mathlib.Core.Path.{_≡_, refl, sym, ap, _∙_}
+use mathlib.Core.Bool.{true, cond}
 use mathlib.Core.List.{List, [], _∷_, _++_, map}
 use Prim.Native.Nat.{ℕ, suc, _+_, _-_, _*_, _/_, _%_, _<_, _≤_}
 use native.Mathlib.Nat.{div-eq-of-lt, mod-eq-of-lt}
 use native.Mathlib.Omega.{arith}
 use Rattle.std.proofs.shelf.Bits.{div-add-mod', div-below, div-mul-add, mod-mul-add}
-use lib.Dec.{eqb, ltb, leb}
 use lib.IntN.{ℤ, pos, negsuc}
 use lib.ListN.{length, getD}
 use Rattle.std.specs.Joined.{joined}
@@ -17,7 +16,6 @@ use Rattle.std.proofs.shelf.Ways.{tells}
 use mathlib.Core.Logic.{⊎-elim}
 use Rattle.cards.specs.declared.seats.Seat.{Seat}
 use Rattle.cards.specs.declared.seats.Seat.the-variants.{Forehand, Middlehand, Rearhand}
-use Rattle.cards.specs.declared.units.GamePoints.{GamePoints}
 use Rattle.cards.specs.Seats.{seatNumber}
 use Rattle.series.specs.declared.rows.Row.{Row}
 use Rattle.series.specs.declared.rows.Row.the-variants.{PassedIn, Game}

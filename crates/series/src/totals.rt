@@ -1,7 +1,7 @@
 // What a list counts for a place.
 ghost use mathlib.Core.Path.{_≡_};
 ghost use mathlib.Core.Bool.{true, cond};
-ghost use Prim.Native.Nat.{ℕ, _+_, _*_, _%_, _<_, _≤_};
+ghost use Prim.Native.Nat.{_+_, _*_, _%_, _<_, _≤_};
 ghost use lib.IntN.{pos, negℤ, _+ℤ_};
 ghost use lib.ListN.{length};
 ghost use lib.Signed.{_≤ℤ_};
@@ -10,7 +10,6 @@ ghost use Rattle.series.specs.Rows.{placesNumber, pointsOf, isRow, areRows};
 ghost use Rattle.series.specs.Totals.{placeOf as placeIn, sits as sitsIn, declares as declaresIn, defends as defendsIn, isWon, isLost, countsFor, winsIn, losesIn, defendsLossIn, IsTally, ratingOf, totalsAnswer};
 use super::lists::ClosedList;
 use super::lists::OpenList;
-use super::lists::Sheet;
 use super::rows::Places;
 use super::rows::Row;
 use cards::refusals::Refusal;

@@ -1,6 +1,4 @@
 // Lists and totals.
-use cards::refusals::Refusal;
-use cards::refusals::RefusalPartialEq;
 use cards::units::GamePoints;
 use series::lists::NotOpened;
 use series::lists::OpenList;

@@ -1,7 +1,7 @@
-use mathlib.Core.Path.{_≡_, refl, sym, ap, _∙_}
+use mathlib.Core.Path.{_≡_, refl, ap, _∙_}
 use mathlib.Core.List.{_++_}
 use native.Mathlib.Omega.{arith}
-use Prim.Native.Nat.{ℕ, _<_}
+use Prim.Native.Nat.{_<_}
 use lib.ListN.{length}
 use Rattle.std.specs.Iters.{counting}
 use Rattle.std.specs.Joined.{joined}
@@ -11,7 +11,7 @@ use Rattle.std.proofs.shelf.Parts.{pushed}
 use Rattle.cards.specs.declared.refusals.Refusal.the-variants.{NoSuchEntry}
 use Rattle.series.specs.Rows.{placesNumber}
 use Rattle.series.specs.Totals.{totalsOf}
-use Rattle.ranking.specs.Reports.{entriesOf, lineText, placeText}
+use Rattle.ranking.specs.Reports.{lineText, placeText}
 use Rattle.ranking.specs.Standings.{rankAt}
 use Rattle.ranking.proofs.Tables.{answer-is, no-refusal, length-entries, text-more}
 use Rattle.ranking.proofs.reports.lines.Needs as need

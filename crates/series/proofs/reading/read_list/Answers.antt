@@ -1,12 +1,11 @@
-use mathlib.Core.Path.{_≡_, ap, _∙_}
+use mathlib.Core.Path.{_≡_}
 use native.Mathlib.Omega.{arith}
 use borrow.Author.Needs.{needs}
-use native.Mathlib.Nat.{sub-zero}
-use lib.ListN.{length, getD, take}
-use Rattle.series.specs.Format.{games}
+use lib.ListN.{length, getD}
 use Prim.Native.Nat.{ℕ, _<_}
 use Rattle.std.proofs.shelf.Results.{err-from-errBy}
-use Rattle.series.proofs.Filing.{header-refused, part-refused, games-differ, list-read}
+use Rattle.series.proofs.Filing.{part-refused, games-differ, list-read}
+use Rattle.series.proofs.Headers.{header-refused}
 use Rattle.series.proofs.reading.read_list.Needs as need
 
 pub returns-in-Break-places : need.returns-in-Break-places

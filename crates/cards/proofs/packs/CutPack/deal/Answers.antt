@@ -1,5 +1,4 @@
 use mathlib.Core.Path.{_≡_, sym, subst}
-use native.Mathlib.Omega.{arith}
 use lib.ListN.{length, set}
 use borrow.Author.Needs.{needs}
 use Prim.Native.Nat.{ℕ, _+_}
