@@ -19,15 +19,15 @@ round n = (n, Hand Forehand) ∷ ((n, Hand Middlehand) ∷ ((n, Hand Rearhand) �
 abbrev pub turns : List (ℕ × Dealt)
 turns = round 3 ++ ((2, Skat) ∷ (round 4 ++ round 3))
 
--- Who gets the card at a place, counted from the first of these turns.
+-- Who gets the card at a position, counted from the first of these turns.
 abbrev pub receiverIn : List (ℕ × Dealt) → ℕ → Dealt
-receiverIn [] place = Skat
-receiverIn (turn ∷ turns) place = cond (ltb place (turn .0)) (turn .1) (receiverIn turns (place - turn .0))
+receiverIn [] position = Skat
+receiverIn (turn ∷ turns) position = cond (ltb position (turn .0)) (turn .1) (receiverIn turns (position - turn .0))
 
--- Who gets the card that stands at this place from the top.
+-- Who gets the card that stands at this position from the top.
 abbrev pub receiver : ℕ → Dealt
-receiver place = receiverIn turns place
+receiver position = receiverIn turns position
 
--- What was dealt, listed by the cards' numbers: each card lies where its place in the pack sends it.
+-- What was dealt, listed by the cards' numbers: each card lies where its position in the pack sends it.
 abbrev pub DealtAs : List Card → List Dealt → Type 0
-DealtAs cards dealt = (place : ℕ) (d : Card) → place < 32 → getD dealt (cardNumber (getD cards place d)) Skat ≡ receiver place
+DealtAs cards dealt = (position : ℕ) (d : Card) → position < 32 → getD dealt (cardNumber (getD cards position d)) Skat ≡ receiver position

@@ -7,7 +7,7 @@ use Rattle.std.specs.declared.option.Option.the-variants.{Some, None}
 use Rattle.std.specs.declared.result.Result.{Result}
 use Rattle.std.specs.declared.result.Result.the-variants.{Ok, Err}
 use Rattle.cards.specs.declared.refusals.Refusal.{Refusal}
-use Rattle.cards.specs.declared.refusals.Refusal.the-variants.{NoSuchRole, BufferTooShort, NotAPack, NoSuchMark, ListFull, BadPoints, FileTooShort, BadTag, NotAList, BadRow, BadGames, NoSuchEntry}
+use Rattle.cards.specs.declared.refusals.Refusal.the-variants.{NoSuchRole, BufferTooShort, NotAPack, NoSuchMark, ListFull, PointsNotAllowed, FileTooShort, WrongTag, NotAList, RowNotAllowed, WrongGamesCount, NoSuchEntry}
 
 abbrev pub refusalNumber : Refusal → ℕ
 refusalNumber NoSuchRole = 1
@@ -15,12 +15,12 @@ refusalNumber BufferTooShort = 14
 refusalNumber NotAPack = 15
 refusalNumber NoSuchMark = 16
 refusalNumber ListFull = 18
-refusalNumber BadPoints = 19
+refusalNumber PointsNotAllowed = 19
 refusalNumber FileTooShort = 20
-refusalNumber BadTag = 21
+refusalNumber WrongTag = 21
 refusalNumber NotAList = 22
-refusalNumber BadRow = 23
-refusalNumber BadGames = 24
+refusalNumber RowNotAllowed = 23
+refusalNumber WrongGamesCount = 24
 refusalNumber NoSuchEntry = 27
 
 -- Of several refusals, each with its condition, the topmost that fits.

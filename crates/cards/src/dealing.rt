@@ -14,13 +14,13 @@ pub enum Dealt {
     Skat,
 }
 
-// Who gets the card that stands at this place from the top: three each, two for the skat,
-// four each, three each.
-fn receiver_of(place: usize) -> Dealt
-    requires { ⌜ place < 32 ⌝ }
-    ensures { λ r. ⌜ r ≡ receiver place ⌝ }
+// Who gets the card at this position from the top: three each, two for the skat, four each,
+// three each.
+fn receiver_of(position: usize) -> Dealt
+    requires { ⌜ position < 32 ⌝ }
+    ensures { λ r. ⌜ r ≡ receiver position ⌝ }
 {
-    match place {
+    match position {
         0..=2 => Dealt::Hand(Seat::Forehand),
         3..=5 => Dealt::Hand(Seat::Middlehand),
         6..=8 => Dealt::Hand(Seat::Rearhand),
@@ -42,8 +42,8 @@ impl CutPack {
     {
         let CutPack { cards } = self;
         let mut dealt = [Dealt::Skat; 32];
-        for place in 0..32 {
-            dealt[cards[place].number() as usize] = receiver_of(place);
+        for position in 0..32 {
+            dealt[cards[position].number() as usize] = receiver_of(position);
         }
         dealt
     }

@@ -5,6 +5,7 @@ ghost use Rattle.std.specs.Options.{Cases};
 ghost use Rattle.cards.specs.Deck.{suitNumber, placeNumber, cardNumber, eyesOf};
 use super::units::Eyes;
 
+// The suits from the lowest to the highest.
 #[derive(Clone, Copy, PartialEq, Eq, Drop)]
 pub enum Suit {
     Diamonds,
@@ -13,6 +14,7 @@ pub enum Suit {
     Clubs,
 }
 
+// The places of a suit: what stands on a card beside its suit.
 #[derive(Clone, Copy, PartialEq, Eq, Drop)]
 pub enum Place {
     Seven,
@@ -25,6 +27,7 @@ pub enum Place {
     Jack,
 }
 
+// One of the 32 cards.
 #[derive(Clone, Copy, PartialEq, Eq, Drop)]
 pub struct Card {
     pub suit: Suit,
@@ -32,10 +35,16 @@ pub struct Card {
 }
 
 impl Suit {
+    // The suit's number, from 0 for diamonds.
     pub fn number(self) -> u8
         ensures { λ r. ⌜ r ≡ suitNumber self ⌝ }
     {
-        self as u8
+        match self {
+            Suit::Diamonds => 0,
+            Suit::Hearts => 1,
+            Suit::Spades => 2,
+            Suit::Clubs => 3,
+        }
     }
 
     // The suit of this number, if there is one.
@@ -53,6 +62,7 @@ impl Suit {
 }
 
 impl Place {
+    // The place's number, from 0 for the seven.
     pub fn number(self) -> u8
         ensures { λ r. ⌜ r ≡ placeNumber self ⌝ }
     {
@@ -78,6 +88,7 @@ impl Place {
 }
 
 impl Card {
+    // The card's number: 8 times its suit's and its place's.
     pub fn number(self) -> u8
         ensures { λ r. ⌜ r ≡ cardNumber self ⌝ }
     {

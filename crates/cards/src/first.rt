@@ -19,7 +19,7 @@ fn leader<O: Order>(order: &O, items: &[O::Item], best: usize, i: usize) -> usiz
     }
 }
 
-// Where the earliest item stands that none is ahead of; none of none.
+// Where the earliest item stands that none is ahead of, or none where there are no items.
 pub fn first<O: Order>(order: &O, items: &[O::Item]) -> Option<usize>
     ensures { λ r. ⌜ Cases r (length (now (items .entry)) ≡ 0) (λ i. IsFirst (O·Order .ahead (now (order .entry))) (now (items .entry)) i) ⌝ }
 {

@@ -9,13 +9,13 @@ pub trait Order {
     ghost ahead: { Self → Self·Item → Self·Item → Bool };
 
     // Nothing is ahead of itself.
-    law strict: { (o : Self) (a : Self·Item) → ahead o a a ≡ false };
+    law irreflexive: { (o : Self) (a : Self·Item) → ahead o a a ≡ false };
 
     // What is ahead of something ahead is ahead.
-    law chain: { (o : Self) (a b c : Self·Item) → ahead o a b ≡ true → ahead o b c ≡ true → ahead o a c ≡ true };
+    law transitive: { (o : Self) (a b c : Self·Item) → ahead o a b ≡ true → ahead o b c ≡ true → ahead o a c ≡ true };
 
     // If a is ahead of b, any c is ahead of b or has a ahead of it.
-    law between: { (o : Self) (a b c : Self·Item) → ahead o a b ≡ true → (ahead o c b || ahead o a c) ≡ true };
+    law weak: { (o : Self) (a b c : Self·Item) → ahead o a b ≡ true → (ahead o c b || ahead o a c) ≡ true };
 
     fn ahead(&self, a: &Self::Item, b: &Self::Item) -> bool
         ensures { λ r. ⌜ r ≡ ahead (now (self .entry)) (now (a .entry)) (now (b .entry)) ⌝ };

@@ -2,6 +2,7 @@
 ghost use mathlib.Core.Path.{_≡_};
 ghost use Rattle.cards.specs.Refusals.{refusalNumber};
 
+// The reasons in the order in which they are tested.
 #[derive(Clone, Copy, PartialEq, Eq, Drop)]
 pub enum Refusal {
     NoSuchRole,
@@ -9,12 +10,12 @@ pub enum Refusal {
     NotAPack,
     NoSuchMark,
     ListFull,
-    BadPoints,
+    PointsNotAllowed,
     FileTooShort,
-    BadTag,
+    WrongTag,
     NotAList,
-    BadRow,
-    BadGames,
+    RowNotAllowed,
+    WrongGamesCount,
     NoSuchEntry,
 }
 
@@ -29,12 +30,12 @@ impl Refusal {
             Refusal::NotAPack => 15,
             Refusal::NoSuchMark => 16,
             Refusal::ListFull => 18,
-            Refusal::BadPoints => 19,
+            Refusal::PointsNotAllowed => 19,
             Refusal::FileTooShort => 20,
-            Refusal::BadTag => 21,
+            Refusal::WrongTag => 21,
             Refusal::NotAList => 22,
-            Refusal::BadRow => 23,
-            Refusal::BadGames => 24,
+            Refusal::RowNotAllowed => 23,
+            Refusal::WrongGamesCount => 24,
             Refusal::NoSuchEntry => 27,
         }
     }

@@ -4,6 +4,7 @@ ghost use Prim.Native.Nat.{_≤_};
 ghost use Rattle.std.specs.Options.{Cases};
 ghost use Rattle.cards.specs.Seats.{seatNumber};
 
+// Forehand leads to the first trick; the others follow in this order.
 #[derive(Clone, Copy, PartialEq, Eq, Drop)]
 pub enum Seat {
     Forehand,
@@ -12,6 +13,7 @@ pub enum Seat {
 }
 
 impl Seat {
+    // The seat's number, from 0 for forehand.
     pub fn number(self) -> u8
         ensures { λ r. ⌜ r ≡ seatNumber self ⌝ }
     {

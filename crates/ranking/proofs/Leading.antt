@@ -13,7 +13,7 @@ use Rattle.std.specs.declared.option.Option.{Option}
 use Rattle.std.specs.declared.option.Option.the-variants.{Some, None}
 use Rattle.cards.specs.First.{IsFirst}
 use Rattle.ranking.specs.declared.standings.Entry.{Entry}
-use Rattle.ranking.specs.Standings.{isAhead, isAheadOf, noEntry, LeadsAlone}
+use Rattle.ranking.specs.Standings.{isAhead, hasAhead, noEntry, EarliestOfRankOne}
 
 module _ {A : Type 0} (test : A → Bool) where
   count-cons : (x : A) (xs : List A) → countBy test (x ∷ xs) ≡ cond (test x) 1 0 + countBy test xs
@@ -41,13 +41,13 @@ pub cases-more : (r : Option ℕ) (P : Type 0) (Q R : ℕ → Type 0) → ((i : 
 cases-more None P Q R more h = h
 cases-more (Some i) P Q R more h = more i h
 
-pub leads-alone : (entries : List Entry) (i : ℕ) → IsFirst isAhead entries i → LeadsAlone entries i
-leads-alone entries i first = (
-  omega (arith, none-counted (isAheadOf (getD entries i noEntry)) entries noEntry (λ k h. first .1 k noEntry h)),
+pub earliest-of-rank-one : (entries : List Entry) (i : ℕ) → IsFirst isAhead entries i → EarliestOfRankOne entries i
+earliest-of-rank-one entries i first = (
+  omega (arith, none-counted (hasAhead (getD entries i noEntry)) entries noEntry (λ k h. first .1 k noEntry h)),
   (λ k lt one.
-      let none : countBy (isAheadOf (getD entries k noEntry)) entries ≡ 0 = omega arith in
+      let none : countBy (hasAhead (getD entries k noEntry)) entries ≡ 0 = omega arith in
       let within = first .0 in
       first .2 k lt (λ j d h.
       ap (isAhead (getD entries j d)) (getD-default entries k d noEntry (omega arith))
-      ∙ each-fails (isAheadOf (getD entries k noEntry)) entries d none j h)),
+      ∙ each-fails (hasAhead (getD entries k noEntry)) entries d none j h)),
 )

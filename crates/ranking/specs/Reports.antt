@@ -1,5 +1,6 @@
 -- The report on the file of a list: a line for each place, and the place that is first.
 use mathlib.Core.Path.{_≡_}
+use mathlib.Core.Bool.{true}
 use mathlib.Core.List.{List, _++_, map}
 use Prim.Native.Nat.{ℕ}
 use lib.Chars.{codes}
@@ -16,15 +17,16 @@ use Rattle.series.specs.declared.rows.Row.{Row}
 use Rattle.series.specs.declared.totals.Totals.{Totals}
 use Rattle.series.specs.Format.{fileOf, fileRefusal}
 use Rattle.series.specs.Lines.{totalsText}
-use Rattle.series.specs.Rows.{placesNumber}
+use Rattle.series.specs.Rows.{placesNumber, areRows}
 use Rattle.series.specs.Totals.{totalsOf}
 use Rattle.ranking.specs.declared.standings.Entry.{Entry}
-use Rattle.ranking.specs.Standings.{isAhead, rankAt, LeadsAlone}
+use Rattle.ranking.specs.Standings.{isAhead, rankAt, EarliestOfRankOne}
 
--- What a place is ranked by.
+-- What totals are ranked by.
 abbrev pub entryOf : Totals → Entry
 entryOf totals = record { rating = totals .rating; won = totals .won; lost = totals .lost }
 
+-- What a place of a list is ranked by.
 abbrev pub entryFor : ℕ → List Row → ℕ → Entry
 entryFor n rows place = entryOf (totalsOf n place rows)
 
@@ -36,6 +38,7 @@ entriesOf n rows = map (entryFor n rows) (counting 0 n)
 abbrev pub lineText : ℕ → Totals → ℕ → List ℕ
 lineText place totals rank = totalsText place totals ++ (codes " " ++ (decimal rank ++ codes "\n"))
 
+-- The line of a place of a list.
 abbrev pub placeText : ℕ → List Row → ℕ → List ℕ
 placeText n rows place = lineText place (totalsOf n place rows) (rankAt (entriesOf n rows) place)
 
@@ -44,12 +47,12 @@ abbrev pub IsStanding : ℕ → List Row → List ℕ → Type 0
 IsStanding n rows text =
     (first : ℕ)
     × IsFirst isAhead (entriesOf n rows) first
-    × LeadsAlone (entriesOf n rows) first
+    × EarliestOfRankOne (entriesOf n rows) first
     × (text ≡ joined (placeText n rows) (counting 0 n) ++ (decimal first ++ codes "\n"))
 
 -- The report on a file: the standing of the list whose file it is, or the refusal's number alone.
 abbrev pub ReportBy : Option Refusal → List ℕ → List ℕ → Type 0
-ReportBy None file text = (places : Places) × (rows : List Row) × (fileOf places rows ≡ file) × IsStanding (placesNumber places) rows text
+ReportBy None file text = (places : Places) × (rows : List Row) × (areRows rows ≡ true) × (fileOf places rows ≡ file) × IsStanding (placesNumber places) rows text
 ReportBy (Some refusal) file text = text ≡ decimal (refusalNumber refusal) ++ codes "\n"
 
 abbrev pub IsReport : List ℕ → List ℕ → Type 0

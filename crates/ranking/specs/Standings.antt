@@ -23,12 +23,13 @@ isAhead a b =
 abbrev pub noEntry : Entry
 noEntry = record { rating = record { 0 = pos 0 }; won = 0; lost = 0 }
 
-abbrev pub isAheadOf : Entry → Entry → Bool
-isAheadOf entry other = isAhead other entry
+-- Whether another is ahead of this entry.
+abbrev pub hasAhead : Entry → Entry → Bool
+hasAhead entry other = isAhead other entry
 
 -- How many entries are ahead of the one that stands at i.
 abbrev pub numberAhead : List Entry → ℕ → ℕ
-numberAhead entries i = countBy (isAheadOf (getD entries i noEntry)) entries
+numberAhead entries i = countBy (hasAhead (getD entries i noEntry)) entries
 
 -- Rank is 1 plus the number of entries ahead.
 abbrev pub rankAt : List Entry → ℕ → ℕ
@@ -38,6 +39,6 @@ rankAt entries i = 1 + numberAhead entries i
 abbrev pub rankAnswer : List Entry → ℕ → Result ℕ Refusal
 rankAnswer entries i = cond (ltb i (length entries)) (Ok (rankAt entries i)) (Err NoSuchEntry)
 
--- An entry has rank 1, and none before it has.
-abbrev pub LeadsAlone : List Entry → ℕ → Type 0
-LeadsAlone entries i = (rankAt entries i ≡ 1) × ((k : ℕ) → k < i → rankAt entries k ≡ 1 → ⊥)
+-- An entry has rank 1, and none that stands before it has.
+abbrev pub EarliestOfRankOne : List Entry → ℕ → Type 0
+EarliestOfRankOne entries i = (rankAt entries i ≡ 1) × ((k : ℕ) → k < i → rankAt entries k ≡ 1 → ⊥)

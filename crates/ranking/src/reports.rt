@@ -9,36 +9,15 @@ ghost use Rattle.std.specs.Of.Vec.{vec-items};
 ghost use Rattle.std.specs.Vec.{made};
 ghost use Rattle.std.specs.Written.{decimal};
 ghost use Rattle.series.specs.Rows.{placesNumber};
-ghost use Rattle.ranking.specs.Reports.{entriesOf, lineText, placeText, IsStanding, IsReport};
-use super::standings::Entry;
-use super::standings::first_entry;
-use super::standings::rank;
+ghost use Rattle.ranking.specs.Reports.{lineText, placeText, IsStanding, IsReport};
+use super::places::first_place;
+use super::places::rank_of;
 use series::lines::totals_line;
 use series::lists::ClosedList;
 use series::lists::OpenList;
 use series::totals::Totals;
 use std::alloc::AllocError;
 use std::alloc::Global;
-
-// The entries of all places of a list.
-fn entries(heap: Global, list: &ClosedList) -> Result<Vec<Entry>, AllocError>
-    ensures { λ r. ⌜ made r (λ es. vec-items es ≡ entriesOf (placesNumber (now (list .entry) .sheet .places)) (vec-items (now (list .entry) .sheet .rows))) ⌝ }
-{
-    let mut entries = Vec::new(heap);
-    for place in 0..list.places().number() {
-        let Ok(totals) = list.totals(place) else {
-            unreachable()
-        };
-        let Totals {
-            points: _,
-            won,
-            lost,
-            rating,
-        } = totals;
-        entries.push(Entry { rating, won, lost })?;
-    }
-    Ok(entries)
-}
 
 // A place's line: its number, game points, games won, games lost, rating and rank.
 fn ranked_line(heap: Global, place: u8, totals: Totals, rank: usize) -> Result<String, AllocError>
@@ -49,8 +28,7 @@ fn ranked_line(heap: Global, place: u8, totals: Totals, rank: usize) -> Result<S
 }
 
 // The lines of all places.
-fn lines(heap: Global, list: &ClosedList, entries: &[Entry]) -> Result<String, AllocError>
-    requires { ⌜ now entries ≡ entriesOf (placesNumber (now list .sheet .places)) (vec-items (now list .sheet .rows)) ⌝ }
+fn lines(heap: Global, list: &ClosedList) -> Result<String, AllocError>
     ensures { λ r. ⌜ made r (λ text. string-bytes text ≡ joined (placeText (placesNumber (now (list .entry) .sheet .places)) (vec-items (now (list .entry) .sheet .rows))) (counting 0 (placesNumber (now (list .entry) .sheet .places)))) ⌝ }
 {
     let mut text = String::new(heap);
@@ -58,7 +36,7 @@ fn lines(heap: Global, list: &ClosedList, entries: &[Entry]) -> Result<String, A
         let Ok(totals) = list.totals(place) else {
             unreachable()
         };
-        let Ok(rank) = rank(entries, place as usize) else {
+        let Ok(rank) = rank_of(list, place) else {
             unreachable()
         };
         let line = ranked_line(heap, place, totals, rank)?;
@@ -68,7 +46,7 @@ fn lines(heap: Global, list: &ClosedList, entries: &[Entry]) -> Result<String, A
 }
 
 // The lines with one more, the place that is first.
-fn with_first(heap: Global, lines: &String, first: usize) -> Result<String, AllocError>
+fn with_first(heap: Global, lines: &String, first: u8) -> Result<String, AllocError>
     ensures { λ r. ⌜ made r (λ text. string-bytes text ≡ string-bytes (now (lines .entry)) ++ (decimal first ++ codes "\n")) ⌝ }
 {
     format!(heap, "{lines}{first}\n")
@@ -78,12 +56,8 @@ fn with_first(heap: Global, lines: &String, first: usize) -> Result<String, Allo
 fn standing(heap: Global, list: &ClosedList) -> Result<String, AllocError>
     ensures { λ r. ⌜ made r (λ text. IsStanding (placesNumber (now (list .entry) .sheet .places)) (vec-items (now (list .entry) .sheet .rows)) (string-bytes text)) ⌝ }
 {
-    let entries = entries(heap, list)?;
-    let lines = lines(heap, list, entries.as_slice())?;
-    let Some(first) = first_entry(entries.as_slice()) else {
-        unreachable()
-    };
-    with_first(heap, &lines, first)
+    let lines = lines(heap, list)?;
+    with_first(heap, &lines, first_place(list))
 }
 
 // The report on a file: the standing of the list whose file it is, or the number of the

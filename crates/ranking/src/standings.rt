@@ -4,7 +4,7 @@ ghost use Prim.Native.Nat.{_<_, _≤_};
 ghost use lib.ListN.{length};
 ghost use Rattle.std.specs.Options.{Cases};
 ghost use Rattle.cards.specs.First.{IsFirst};
-ghost use Rattle.ranking.specs.Standings.{isAhead, numberAhead, rankAnswer, LeadsAlone};
+ghost use Rattle.ranking.specs.Standings.{isAhead, numberAhead, rankAnswer, EarliestOfRankOne};
 use cards::first::first;
 use cards::order::Order;
 use cards::refusals::Refusal;
@@ -67,7 +67,7 @@ pub fn rank(entries: &[Entry], i: usize) -> Result<usize, Refusal>
 
 // Where the first entry stands: the earliest that none is ahead of.
 pub fn first_entry(entries: &[Entry]) -> Option<usize>
-    ensures { λ r. ⌜ Cases r (length (now (entries .entry)) ≡ 0) (λ i. IsFirst isAhead (now (entries .entry)) i × LeadsAlone (now (entries .entry)) i) ⌝ }
+    ensures { λ r. ⌜ Cases r (length (now (entries .entry)) ≡ 0) (λ i. IsFirst isAhead (now (entries .entry)) i × EarliestOfRankOne (now (entries .entry)) i) ⌝ }
 {
     first(&ByRating, entries)
 }

@@ -22,12 +22,12 @@ row-at (row ∷ rows) (suc i) d all lt = row-at rows i d (and-parts (isRow row) 
 
 -- i rows are counted: what is left makes up each sum
 pub record Counted (n place : ℕ) (rows : List Row) (i : ℕ) (tally : Tally) : Type 0 where
-  pub points : tally .points +ℤ sumOver (countsFor n place) i (drop i rows) ≡ gamePoints n place rows
+  pub points : tally .points .0 +ℤ sumOver (countsFor n place) i (drop i rows) ≡ gamePoints n place rows
   pub won : tally .won + numberOf (winsIn n place) i (drop i rows) ≡ gamesWon n place rows
   pub lost : tally .lost + numberOf (losesIn n place) i (drop i rows) ≡ gamesLost n place rows
   pub defended : tally .defended + numberOf (defendsLossIn n place) i (drop i rows) ≡ lossesDefended n place rows
-  pub low : negℤ (pos (540 * i)) ≤ℤ tally .points
-  pub high : tally .points ≤ℤ pos (264 * i)
+  pub low : negℤ (pos (540 * i)) ≤ℤ tally .points .0
+  pub high : tally .points .0 ≤ℤ pos (264 * i)
   pub few : (tally .won ≤ i) × (tally .lost ≤ i) × (tally .defended ≤ i)
 
 bit-low : (b : Bool) → cond b 1 0 ≤ 1
@@ -35,7 +35,7 @@ bit-low true = omega arith
 bit-low false = omega arith
 
 module _ (n place : ℕ) (rows : List Row) where
-  pub counted-none : Counted n place rows 0 (record { points = pos 0; won = 0; lost = 0; defended = 0 })
+  pub counted-none : Counted n place rows 0 (record { points = record { 0 = pos 0 }; won = 0; lost = 0; defended = 0 })
   counted-none = record {
     points = omega (arith, ints);
     won = omega arith;
@@ -52,12 +52,12 @@ module _ (n place : ℕ) (rows : List Row) where
 
   module _ (i : ℕ) (d : Row) (tally after : Tally) (sofar : Counted n place rows i tally) (lt : i < length rows) where
     pub counted-more :
-        after .points ≡ tally .points +ℤ countsFor n place i (getD rows i d)
+        after .points .0 ≡ tally .points .0 +ℤ countsFor n place i (getD rows i d)
         → after .won ≡ tally .won + cond (winsIn n place i (getD rows i d)) 1 0
         → after .lost ≡ tally .lost + cond (losesIn n place i (getD rows i d)) 1 0
         → after .defended ≡ tally .defended + cond (defendsLossIn n place i (getD rows i d)) 1 0
-        → negℤ (pos (540 * (i + 1))) ≤ℤ after .points
-        → after .points ≤ℤ pos (264 * (i + 1))
+        → negℤ (pos (540 * (i + 1))) ≤ℤ after .points .0
+        → after .points .0 ≤ℤ pos (264 * (i + 1))
         → Counted n place rows (i + 1) after
     counted-more points won lost defended low high =
         let row = getD rows i d in

@@ -14,7 +14,7 @@ use Rattle.std.proofs.shelf.Lists.{drop-at, getD-drop, length-drop, length-take
 use Rattle.std.proofs.shelf.Tests.{and-from, eqb-true, eqb-false, le-ltb, le-leb, eq-eqb, ne-eqb}
 use Rattle.std.proofs.shelf.Sums.{countBy-le-length}
 use Rattle.cards.specs.declared.refusals.Refusal.{Refusal}
-use Rattle.cards.specs.declared.refusals.Refusal.the-variants.{FileTooShort, BadTag, NotAList, BadRow, BadGames}
+use Rattle.cards.specs.declared.refusals.Refusal.the-variants.{FileTooShort, WrongTag, NotAList, RowNotAllowed, WrongGamesCount}
 use Rattle.std.specs.declared.result.Result.{Result}
 use Rattle.std.specs.declared.result.Result.the-variants.{Ok}
 use Rattle.cards.specs.Refusals.{topmost, answered}
@@ -114,8 +114,8 @@ module _ (places : Places) (rows : List Row) (good : areRows rows ≡ true) (few
       let file = fileOf places rows in
       let long : ltb (length file) 16 ≡ false = le-ltb (length file) 16 (omega (arith, length-file places rows)) in
       let head : topmost (headerRefusals file) ≡ None =
-      none-from FileTooShort _ ((BadTag, not (isTag file)) ∷ ((NotAList, not (isHeader file)) ∷ [])) long
-      (none-from BadTag _ ((NotAList, not (isHeader file)) ∷ []) (ap not (tag-of places rows)) (none-from NotAList _ [] (ap not header-good) refl)) in
+      none-from FileTooShort _ ((WrongTag, not (isTag file)) ∷ ((NotAList, not (isHeader file)) ∷ [])) long
+      (none-from WrongTag _ ((NotAList, not (isHeader file)) ∷ []) (ap not (tag-of places rows)) (none-from NotAList _ [] (ap not header-good) refl)) in
       accepted file head
       (ap areRawRows rows-in ∙ raws-good rows good)
       (eq-eqb _ _ (games-field ∙ sym (ap (countBy isRawGame) rows-in ∙ raw-games rows)))
@@ -138,7 +138,7 @@ module _ (file : List ℕ) (small : (i : ℕ) → getD file i 0 < 256) (ok : top
       let long : length part ≡ length file - offset = ap length is ∙ length-drop offset file in
       omega (arith, facts .offset, facts .rows, facts .whole)
 
-  pub part-refused : areRawRows (rawRows part) ≡ false → fileRefusal file ≡ Some BadRow
+  pub part-refused : areRawRows (rawRows part) ≡ false → fileRefusal file ≡ Some RowNotAllowed
   part-refused bad = rows-refused file ok (ap areRawRows (sym in-part) ∙ bad)
 
   module _ (rows : List Row) (room : length rows ≡ 48) (read : (rawRows part ≡ map rawOf (take (length part / 4) rows)) × (areRows (take (length part / 4) rows) ≡ true)) (stated : ℕ) {right : Bool} (told : right ≡ eqb (games (take (count - 0) rows)) stated) (said : stated ≡ gamesField file) where
@@ -154,7 +154,7 @@ module _ (file : List ℕ) (small : (i : ℕ) → getD file i 0 < 256) (ok : top
     raw-played : countBy isRawGame (rowsIn file) ≡ games (take (count - 0) rows)
     raw-played = ap (countBy isRawGame) rows-are ∙ (raw-games (take count rows) ∙ ap (λ k. games (take k rows)) (sym (sub-zero count)))
 
-    pub games-differ : right ≡ false → fileRefusal file ≡ Some BadGames
+    pub games-differ : right ≡ false → fileRefusal file ≡ Some WrongGamesCount
     games-differ wrong =
         let differ = eqb-false _ _ (sym told ∙ wrong) in
         games-refused file ok good (ne-eqb (gamesField file) (countBy isRawGame (rowsIn file)) (λ e. differ (sym raw-played ∙ (sym e ∙ sym said))))
@@ -176,6 +176,6 @@ pub read-back : (file : List ℕ) (answer : Result (Unit {0}) Refusal) (p q : Pl
 read-back file answer p q r s fine said list = λ places rows good few is.
     let none : fileRefusal file ≡ None = ap fileRefusal is ∙ file-accepted places rows good few in
     let ok : answer ≡ Ok tt = said ∙ ap (λ o. answered o tt) none in
-    let new : fileOf q s ≡ file = subst (λ a. ListRead file a p r q s) ok list in
-    let same = file-same q places s rows fine good (new ∙ is) in
+    let new : ListRead file (Ok tt) p r q s = subst (λ a. ListRead file a p r q s) ok list in
+    let same = file-same q places s rows fine good (new .1 ∙ is) in
     (ok, same .0, same .1)

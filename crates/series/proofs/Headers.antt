@@ -11,7 +11,7 @@ use Rattle.std.specs.declared.option.Option.the-variants.{Some, None}
 use Rattle.std.proofs.shelf.Lists.{drop-more}
 use Rattle.std.proofs.shelf.Tests.{and-parts, not-false, ltb-false, leb-true, eqb-true}
 use Rattle.cards.specs.declared.refusals.Refusal.{Refusal}
-use Rattle.cards.specs.declared.refusals.Refusal.the-variants.{FileTooShort, BadTag, NotAList, BadRow, BadGames}
+use Rattle.cards.specs.declared.refusals.Refusal.the-variants.{FileTooShort, WrongTag, NotAList, RowNotAllowed, WrongGamesCount}
 use Rattle.cards.specs.Refusals.{topmost}
 use Rattle.cards.proofs.Topmost.{none-parts, topmost-past, topmost-early}
 use Rattle.series.specs.Rows.{isPlaces}
@@ -31,18 +31,18 @@ module _ (file : List ℕ) (ok : topmost (headerRefusals file) ≡ None) where
   unfolding fileRefusal
   rest = topmost-past (headerRefusals file) (rowRefusals file) ok
 
-  pub rows-refused : areRawRows (rowsIn file) ≡ false → fileRefusal file ≡ Some BadRow
-  rows-refused bad = rest ∙ ap (λ b. topmost ((BadRow, not b) ∷ ((BadGames, not (sameGames file)) ∷ []))) bad
+  pub rows-refused : areRawRows (rowsIn file) ≡ false → fileRefusal file ≡ Some RowNotAllowed
+  rows-refused bad = rest ∙ ap (λ b. topmost ((RowNotAllowed, not b) ∷ ((WrongGamesCount, not (sameGames file)) ∷ []))) bad
 
   module _ (good : areRawRows (rowsIn file) ≡ true) where
-    left : fileRefusal file ≡ topmost ((BadGames, not (sameGames file)) ∷ [])
-    left = rest ∙ ap (λ b. topmost ((BadRow, not b) ∷ ((BadGames, not (sameGames file)) ∷ []))) good
+    left : fileRefusal file ≡ topmost ((WrongGamesCount, not (sameGames file)) ∷ [])
+    left = rest ∙ ap (λ b. topmost ((RowNotAllowed, not b) ∷ ((WrongGamesCount, not (sameGames file)) ∷ []))) good
 
-    pub games-refused : sameGames file ≡ false → fileRefusal file ≡ Some BadGames
-    games-refused bad = left ∙ ap (λ b. topmost ((BadGames, not b) ∷ [])) bad
+    pub games-refused : sameGames file ≡ false → fileRefusal file ≡ Some WrongGamesCount
+    games-refused bad = left ∙ ap (λ b. topmost ((WrongGamesCount, not b) ∷ [])) bad
 
     pub accepted : sameGames file ≡ true → fileRefusal file ≡ None
-    accepted same = left ∙ ap (λ b. topmost ((BadGames, not b) ∷ [])) same
+    accepted same = left ∙ ap (λ b. topmost ((WrongGamesCount, not b) ∷ [])) same
 
 -- what a header that is not refused has
 pub record HeaderFacts (file : List ℕ) : Type 0 where
@@ -56,8 +56,8 @@ pub record HeaderFacts (file : List ℕ) : Type 0 where
 
 pub header-facts : (file : List ℕ) → topmost (headerRefusals file) ≡ None → HeaderFacts file
 header-facts file ok =
-    let a = none-parts FileTooShort (ltb (length file) 16) ((BadTag, not (isTag file)) ∷ ((NotAList, not (isHeader file)) ∷ [])) ok in
-    let b = none-parts BadTag (not (isTag file)) ((NotAList, not (isHeader file)) ∷ []) (a .1) in
+    let a = none-parts FileTooShort (ltb (length file) 16) ((WrongTag, not (isTag file)) ∷ ((NotAList, not (isHeader file)) ∷ [])) ok in
+    let b = none-parts WrongTag (not (isTag file)) ((NotAList, not (isHeader file)) ∷ []) (a .1) in
     let c = none-parts NotAList (not (isHeader file)) [] (b .1) in
     let t3 = and-parts _ (eqb (getD file 3 0) 49) (not-false (isTag file) (b .0)) in
     let t2 = and-parts _ (eqb (getD file 2 0) 76) (t3 .0) in

@@ -9,20 +9,20 @@ use Rattle.std.proofs.shelf.Tests.{and-left, and-right}
 use native.Mathlib.Omega.{arith}
 use Rattle.std.specs.declared.option.Option.the-variants.{Some}
 use Rattle.cards.specs.declared.refusals.Refusal.{Refusal}
-use Rattle.cards.specs.declared.refusals.Refusal.the-variants.{NoSuchRole, BadPoints}
+use Rattle.cards.specs.declared.refusals.Refusal.the-variants.{NoSuchRole, PointsNotAllowed}
 use Rattle.cards.specs.Refusals.{topmost}
 use Rattle.series.specs.declared.rows.Row.{Row}
-use Rattle.series.specs.Rows.{isRole, isCount, isRow, areRows, rowRefusal}
+use Rattle.series.specs.Rows.{isRole, goesWith, isRow, areRows, rowRefusal}
 use Rattle.series.specs.Format.{RawRow, isRawRow, areRawRows, rawRows, rawAt, rawOf}
 use Rattle.series.proofs.Pushes.{areRows-push}
 
-never : (a b c : Bool) (refusal : Refusal) → topmost ((NoSuchRole, not a) ∷ ((BadPoints, not b) ∷ [])) ≡ Some refusal → (a && b && c) ≡ false
+never : (a b c : Bool) (refusal : Refusal) → topmost ((NoSuchRole, not a) ∷ ((PointsNotAllowed, not b) ∷ [])) ≡ Some refusal → (a && b && c) ≡ false
 never true true c refusal e = let z : _≡_ {A = ℕ} 0 1 = cc in absurd (omega arith)
 never true false c refusal e = refl
 never false b c refusal e = refl
 
 pub raw-bad : (raw : RawRow) (refusal : Refusal) → rowRefusal (raw .role) (raw .points) ≡ Some refusal → isRawRow raw ≡ false
-raw-bad raw refusal e = never (isRole (raw .role)) (isCount (raw .role) (raw .points)) _ refusal e
+raw-bad raw refusal e = never (isRole (raw .role)) (goesWith (raw .role) (raw .points)) _ refusal e
 
 -- the row at a place, and those behind it
 pub raw-step : (part : List ℕ) (i : ℕ) → 4 * i + 3 < length part → rawRows (drop (4 * i) part) ≡ rawAt part (4 * i) ∷ rawRows (drop (4 * (i + 1)) part)

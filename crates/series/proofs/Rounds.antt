@@ -19,7 +19,7 @@ use Rattle.cards.specs.declared.seats.Seat.the-variants.{Forehand, Middlehand, 
 use Rattle.cards.specs.Seats.{seatNumber}
 use Rattle.series.specs.declared.rows.Row.{Row}
 use Rattle.series.specs.declared.rows.Row.the-variants.{PassedIn, Game}
-use Rattle.series.specs.Rows.{roleNumber, pointsOf, isGame, isWorth, isRow, areRows}
+use Rattle.series.specs.Rows.{roleNumber, pointsOf, isGame, isGameValue, isRow, areRows}
 use Rattle.series.specs.Format.{RawRow, rawOf, rawRows, isRawRow, areRawRows, isRawGame, games, inTwo, inFour, bits16, signed16, rowBytes}
 
 pub back16 : (n : ℕ) → n < 65536 → bits16 (signed16 n) ≡ n
@@ -51,7 +51,7 @@ four-back a b c d p q r s =
     cc
 
 -- points that a row can count, from their 16 bits
-pub worth-back : (z : ℤ) → isWorth z ≡ true → (bits16 z < 65536) × (signed16 (bits16 z) ≡ z)
+pub worth-back : (z : ℤ) → isGameValue z ≡ true → (bits16 z < 65536) × (signed16 (bits16 z) ≡ z)
 worth-back (pos n) ok =
     let low : n ≤ 264 = grind (arith, tells) in
     (omega arith, ap (λ b. cond b (pos n) (negsuc (65536 - suc n))) (lt-ltb n 32768 (omega arith)))
@@ -128,9 +128,9 @@ raw-games (row ∷ rows) =
 
 raw-good : (row : Row) → isRow row ≡ true → isRawRow (rawOf row) ≡ true
 raw-good PassedIn ok = refl
-raw-good (Game Forehand points) ok = and-from (isWorth (points .0)) true ok refl
-raw-good (Game Middlehand points) ok = and-from (isWorth (points .0)) true ok refl
-raw-good (Game Rearhand points) ok = and-from (isWorth (points .0)) true ok refl
+raw-good (Game Forehand points) ok = and-from (isGameValue (points .0)) true ok refl
+raw-good (Game Middlehand points) ok = and-from (isGameValue (points .0)) true ok refl
+raw-good (Game Rearhand points) ok = and-from (isGameValue (points .0)) true ok refl
 
 pub raws-good : (rows : List Row) → areRows rows ≡ true → areRawRows (map rawOf rows) ≡ true
 raws-good [] ok = refl

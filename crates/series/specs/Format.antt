@@ -14,13 +14,13 @@ use Rattle.std.specs.declared.option.Option.the-variants.{Some, None}
 use Rattle.std.specs.declared.result.Result.{Result}
 use Rattle.std.specs.declared.result.Result.the-variants.{Ok, Err}
 use Rattle.cards.specs.declared.refusals.Refusal.{Refusal}
-use Rattle.cards.specs.declared.refusals.Refusal.the-variants.{BufferTooShort, FileTooShort, BadTag, NotAList, BadRow, BadGames}
+use Rattle.cards.specs.declared.refusals.Refusal.the-variants.{BufferTooShort, FileTooShort, WrongTag, NotAList, RowNotAllowed, WrongGamesCount}
 use Rattle.cards.specs.Refusals.{topmost}
 use Rattle.series.specs.declared.rows.Places.{Places}
 use Rattle.series.specs.declared.reading.Header.{Header}
 use Rattle.series.specs.declared.reading.Listed.{Listed}
 use Rattle.series.specs.declared.rows.Row.{Row}
-use Rattle.series.specs.Rows.{placesNumber, isPlaces, isRole, isCount, roleNumber, pointsOf, isGame, areRows}
+use Rattle.series.specs.Rows.{placesNumber, isPlaces, isRole, goesWith, roleNumber, pointsOf, isGame, areRows, mostRows}
 
 -- A number in two and in four bytes, low byte first.
 abbrev pub inTwo : ℕ → List ℕ
@@ -46,10 +46,14 @@ rowBytes row = roleNumber row ∷ (0 ∷ inTwo (bits16 (pointsOf row)))
 abbrev pub fileLength : ℕ → ℕ
 fileLength rows = 16 + 4 * rows
 
+-- A file begins with these letters.
+abbrev pub tag : List ℕ
+tag = codes "SKL1"
+
 -- The first 16 bytes: tag, places, zero, rows, games, offset of the first row, whole length.
 unfoldable pub header : ℕ → ℕ → ℕ → List ℕ
 header places rows games =
-    codes "SKL1" ++ (places ∷ (0 ∷ (inTwo rows ++ (inTwo games ++ (inTwo 16 ++ inFour (fileLength rows))))))
+    tag ++ (places ∷ (0 ∷ (inTwo rows ++ (inTwo games ++ (inTwo 16 ++ inFour (fileLength rows))))))
 
 -- The file of a list.
 abbrev pub fileOf : Places → List Row → List ℕ
@@ -81,13 +85,13 @@ pub record RawRow : Type 0 where
   pub second : ℕ
   pub points : ℤ
 
--- A row as its file has it.
-abbrev pub rawOf : Row → RawRow
-rawOf row = record { role = roleNumber row; second = 0; points = pointsOf row }
+-- The row in four bytes.
+abbrev pub rawFrom : ℕ → ℕ → ℕ → ℕ → RawRow
+rawFrom a b c d = record { role = a; second = b; points = signed16 (c + d * 256) }
 
--- The row in four bytes from a place on.
+-- The row in the four bytes from a place on.
 abbrev pub rawAt : List ℕ → ℕ → RawRow
-rawAt bytes at = record { role = getD bytes at 0; second = getD bytes (at + 1) 0; points = signed16 (getD bytes (at + 2) 0 + getD bytes (at + 3) 0 * 256) }
+rawAt bytes at = rawFrom (getD bytes at 0) (getD bytes (at + 1) 0) (getD bytes (at + 2) 0) (getD bytes (at + 3) 0)
 
 -- The rows in these bytes, four bytes each.
 abbrev pub rawRows : List ℕ → List RawRow
@@ -95,11 +99,15 @@ rawRows [] = []
 rawRows (a ∷ []) = []
 rawRows (a ∷ (b ∷ [])) = []
 rawRows (a ∷ (b ∷ (c ∷ []))) = []
-rawRows (a ∷ (b ∷ (c ∷ (d ∷ rest)))) = record { role = a; second = b; points = signed16 (c + d * 256) } ∷ rawRows rest
+rawRows (a ∷ (b ∷ (c ∷ (d ∷ rest)))) = rawFrom a b c d ∷ rawRows rest
+
+-- What a file has of a row of a list.
+abbrev pub rawOf : Row → RawRow
+rawOf row = record { role = roleNumber row; second = 0; points = pointsOf row }
 
 -- A row of a file: a role, a zero, and points that go with the role.
 abbrev pub isRawRow : RawRow → Bool
-isRawRow raw = isRole (raw .role) && isCount (raw .role) (raw .points) && eqb (raw .second) 0
+isRawRow raw = isRole (raw .role) && goesWith (raw .role) (raw .points) && eqb (raw .second) 0
 
 abbrev pub areRawRows : List RawRow → Bool
 areRawRows [] = true
@@ -124,14 +132,16 @@ lengthField file = fourAt file 12
 abbrev pub rowsIn : List ℕ → List RawRow
 rowsIn file = rawRows (drop (offsetField file) file)
 
+-- Whether a file begins with the tag.
 abbrev pub isTag : List ℕ → Bool
-isTag file = eqb (getD file 0 0) 83 && eqb (getD file 1 0) 75 && eqb (getD file 2 0) 76 && eqb (getD file 3 0) 49
+isTag file = eqb (getD file 0 0) (getD tag 0 0) && eqb (getD file 1 0) (getD tag 1 0) && eqb (getD file 2 0) (getD tag 2 0) && eqb (getD file 3 0) (getD tag 3 0)
 
+-- Whether the other header fields are those of these bytes, the games aside.
 abbrev pub isHeader : List ℕ → Bool
 isHeader file =
     isPlaces (getD file 4 0)
     && eqb (getD file 5 0) 0
-    && leb (rowsField file) 48
+    && leb (rowsField file) mostRows
     && eqb (offsetField file) 16
     && eqb (lengthField file) (fileLength (rowsField file))
     && eqb (lengthField file) (length file)
@@ -139,12 +149,13 @@ isHeader file =
 -- Why bytes are not the file of a list: what is refused in the header, and then in the rows.
 abbrev pub headerRefusals : List ℕ → List (Refusal × Bool)
 headerRefusals file =
-    (FileTooShort, ltb (length file) 16) ∷ ((BadTag, not (isTag file)) ∷ ((NotAList, not (isHeader file)) ∷ []))
+    (FileTooShort, ltb (length file) 16) ∷ ((WrongTag, not (isTag file)) ∷ ((NotAList, not (isHeader file)) ∷ []))
 
 abbrev pub rowRefusals : List ℕ → List (Refusal × Bool)
 rowRefusals file =
-    (BadRow, not (areRawRows (rowsIn file))) ∷ ((BadGames, not (eqb (gamesField file) (countBy isRawGame (rowsIn file)))) ∷ [])
+    (RowNotAllowed, not (areRawRows (rowsIn file))) ∷ ((WrongGamesCount, not (eqb (gamesField file) (countBy isRawGame (rowsIn file)))) ∷ [])
 
+-- The refusal of a file: the topmost that fits.
 unfoldable pub fileRefusal : List ℕ → Option Refusal
 fileRefusal file = topmost (headerRefusals file ++ rowRefusals file)
 
@@ -162,17 +173,17 @@ HeaderRead file (Err refusal) = topmost (headerRefusals file) ≡ Some refusal
 abbrev pub FileRead : List ℕ → Result Listed Refusal → Type 0
 FileRead file (Ok listed) =
     (fileRefusal file ≡ None)
-    × (listed .count ≤ 48)
+    × (listed .count ≤ mostRows)
     × (areRows (take (listed .count) (listed .rows)) ≡ true)
     × (fileOf (listed .places) (take (listed .count) (listed .rows)) ≡ file)
 FileRead file (Err refusal) = fileRefusal file ≡ Some refusal
 
--- A file read into a list: its file is then this one, or it is refused and the list is as it was.
+-- A file read into a list: it has rows that may stand on one and this file, or it is refused and the list is as it was.
 abbrev pub ListRead : List ℕ → Result (Unit {0}) Refusal → Places → List Row → Places → List Row → Type 0
-ListRead file (Ok _) places rows newPlaces newRows = fileOf newPlaces newRows ≡ file
+ListRead file (Ok _) places rows newPlaces newRows = (areRows newRows ≡ true) × (fileOf newPlaces newRows ≡ file)
 ListRead file (Err refusal) places rows newPlaces newRows = (newPlaces ≡ places) × (newRows ≡ rows)
 
 -- Whatever list the file was written from, it is accepted, and that list is what it gives.
 abbrev pub ReadBack : List ℕ → Result (Unit {0}) Refusal → Places → List Row → Type 0
 ReadBack file answer newPlaces newRows =
-    (places : Places) (rows : List Row) → areRows rows ≡ true → length rows ≤ 48 → file ≡ fileOf places rows → (answer ≡ Ok tt) × (newPlaces ≡ places) × (newRows ≡ rows)
+    (places : Places) (rows : List Row) → areRows rows ≡ true → length rows ≤ mostRows → file ≡ fileOf places rows → (answer ≡ Ok tt) × (newPlaces ≡ places) × (newRows ≡ rows)

@@ -11,7 +11,7 @@ use Rattle.std.specs.declared.option.Option.the-variants.{Some, None}
 use Rattle.std.specs.declared.result.Result.{Result}
 use Rattle.std.specs.declared.result.Result.the-variants.{Ok, Err}
 use Rattle.cards.specs.declared.refusals.Refusal.{Refusal}
-use Rattle.cards.specs.declared.refusals.Refusal.the-variants.{NoSuchRole, ListFull, BadPoints}
+use Rattle.cards.specs.declared.refusals.Refusal.the-variants.{NoSuchRole, ListFull, PointsNotAllowed}
 use Rattle.cards.specs.Refusals.{topmost}
 use Rattle.cards.specs.Seats.{seatNumber}
 use Rattle.series.specs.declared.rows.Places.{Places}
@@ -26,6 +26,10 @@ placesNumber Four = 4
 -- A list has three or four places.
 abbrev pub isPlaces : ℕ → Bool
 isPlaces n = eqb n 3 || eqb n 4
+
+-- A list has at most 48 rows.
+abbrev pub mostRows : ℕ
+mostRows = 48
 
 -- A row's role as a number: the declarer's seat, or 255 where the deal was passed in.
 abbrev pub roleNumber : Row → ℕ
@@ -43,14 +47,15 @@ isGame PassedIn = false
 isGame (Game declarer points) = true
 
 -- What a game can count: from −540 to 264, and never 0.
-abbrev pub isWorth : ℤ → Bool
-isWorth points = leZ (negℤ (pos 540)) points && leZ points (pos 264) && (ltZ points (pos 0) || ltZ (pos 0) points)
+abbrev pub isGameValue : ℤ → Bool
+isGameValue points = leZ (negℤ (pos 540)) points && leZ points (pos 264) && (ltZ points (pos 0) || ltZ (pos 0) points)
 
 -- Whether a row may stand on a list.
 abbrev pub isRow : Row → Bool
 isRow PassedIn = true
-isRow (Game declarer points) = isWorth (points .0)
+isRow (Game declarer points) = isGameValue (points .0)
 
+-- Whether all of these rows may stand on a list.
 abbrev pub areRows : List Row → Bool
 areRows [] = true
 areRows (row ∷ rows) = isRow row && areRows rows
@@ -64,17 +69,17 @@ abbrev pub isRole : ℕ → Bool
 isRole role = leb role 2 || eqb role 255
 
 -- Points that go with a role: 0 without a declarer, else what a game can count.
-abbrev pub isCount : ℕ → ℤ → Bool
-isCount role points = cond (eqb role 255) (leZ points (pos 0) && leZ (pos 0) points) (isWorth points)
+abbrev pub goesWith : ℕ → ℤ → Bool
+goesWith role points = cond (eqb role 255) (leZ points (pos 0) && leZ (pos 0) points) (isGameValue points)
 
 -- Why there is no row of this role and these points.
 abbrev pub rowRefusal : ℕ → ℤ → Option Refusal
-rowRefusal role points = topmost ((NoSuchRole, not (isRole role)) ∷ ((BadPoints, not (isCount role points)) ∷ []))
+rowRefusal role points = topmost ((NoSuchRole, not (isRole role)) ∷ ((PointsNotAllowed, not (goesWith role points)) ∷ []))
 
 -- Why a row is not entered on a list that has so many rows.
 abbrev pub entryRefusal : ℕ → ℕ → ℤ → Option Refusal
 entryRefusal rows role points =
-    topmost ((NoSuchRole, not (isRole role)) ∷ ((ListFull, leb 48 rows) ∷ ((BadPoints, not (isCount role points)) ∷ [])))
+    topmost ((NoSuchRole, not (isRole role)) ∷ ((ListFull, leb mostRows rows) ∷ ((PointsNotAllowed, not (goesWith role points)) ∷ [])))
 
 -- What making a row gives: the row, which may stand on a list, or why there is none.
 abbrev pub RowMade : ℕ → ℤ → Result Row Refusal → Type 0

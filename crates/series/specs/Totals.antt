@@ -17,7 +17,7 @@ use Rattle.series.specs.declared.rows.Row.{Row}
 use Rattle.series.specs.declared.rows.Row.the-variants.{PassedIn, Game}
 use Rattle.series.specs.declared.totals.Tally.{Tally}
 use Rattle.series.specs.declared.totals.Totals.{Totals}
-use Rattle.series.specs.Rows.{pointsOf}
+use Rattle.series.specs.Rows.{mostRows, pointsOf}
 
 -- Row i of a list of n places is dealt by place i modulo n.
 abbrev pub dealer : ℕ → ℕ → ℕ
@@ -59,9 +59,11 @@ numberOf test i [] = 0
 numberOf test i (row ∷ rows) = cond (test i row) 1 0 + numberOf test (i + 1) rows
 
 module _ (n place : ℕ) where
+  -- What row i counts for the place.
   abbrev pub countsFor : ℕ → Row → ℤ
   countsFor i row = cond (declares n place i row) (pointsOf row) (pos 0)
 
+  -- Whether the place won, lost, or defended a lost game in row i.
   abbrev pub winsIn : ℕ → Row → Bool
   winsIn i row = declares n place i row && isWon row
 
@@ -71,6 +73,7 @@ module _ (n place : ℕ) where
   abbrev pub defendsLossIn : ℕ → Row → Bool
   defendsLossIn i row = defends n place i row && isLost row
 
+  -- The sums over all rows.
   abbrev pub gamePoints : List Row → ℤ
   gamePoints rows = sumOver countsFor 0 rows
 
@@ -86,13 +89,13 @@ module _ (n place : ℕ) where
 
 -- A tally holds a place's sums, each within what 48 rows can count.
 pub record IsTally (n place : ℕ) (rows : List Row) (tally : Tally) : Type 0 where
-  pub points : tally .points ≡ gamePoints n place rows
+  pub points : tally .points .0 ≡ gamePoints n place rows
   pub won : tally .won ≡ gamesWon n place rows
   pub lost : tally .lost ≡ gamesLost n place rows
   pub defended : tally .defended ≡ lossesDefended n place rows
-  pub low : negℤ (pos 25920) ≤ℤ tally .points
-  pub high : tally .points ≤ℤ pos 12672
-  pub few : (tally .won ≤ 48) × (tally .lost ≤ 48) × (tally .defended ≤ 48)
+  pub low : negℤ (pos (540 * mostRows)) ≤ℤ tally .points .0
+  pub high : tally .points .0 ≤ℤ pos (264 * mostRows)
+  pub few : (tally .won ≤ mostRows) × (tally .lost ≤ mostRows) × (tally .defended ≤ mostRows)
 
 -- Game points, 50 for each game won, less 50 for each game lost, and 40 for each loss defended.
 abbrev pub ratingOf : ℤ → ℕ → ℕ → ℕ → ℤ

@@ -6,14 +6,17 @@ ghost use Prim.Native.Nat.{_<_};
 ghost use Rattle.std.specs.Results.{Cases};
 ghost use Rattle.std.specs.Of.Vec.{vec-items, vec-len};
 ghost use Rattle.cards.specs.Refusals.{answered};
-ghost use Rattle.series.specs.Rows.{isRow, entryRefusal, Entered};
+ghost use Rattle.series.specs.Rows.{placesNumber, isRow, entryRefusal, Entered};
 ghost use Rattle.series.specs.Opening.{Opened};
+ghost use Rattle.series.specs.Totals.{totalsAnswer};
+use super::lists::BadPlaces;
 use super::lists::ClosedList;
 use super::lists::NotOpened;
 use super::lists::OpenList;
 use super::lists::Sheet;
 use super::rows::Places;
 use super::rows::Row;
+use super::totals::Totals;
 use cards::refusals::Refusal;
 use cards::units::GamePoints;
 use std::alloc::Global;
@@ -44,10 +47,12 @@ impl OpenList {
                 sheet: Sheet { places, rows },
             }),
             None => {
+                let refusal = Refusal::NotAList;
                 let places = Places::Three;
-                Err(NotOpened::NotAList(OpenList {
+                let list = OpenList {
                     sheet: Sheet { places, rows },
-                }))
+                };
+                Err(NotOpened::Refused(BadPlaces { refusal, list }))
             }
         }
     }
@@ -69,10 +74,31 @@ impl OpenList {
         Ok(())
     }
 
+    // Closes the list, at any length.
     pub fn close(self) -> ClosedList
         ensures { λ r. ⌜ r .sheet ≡ self .sheet ⌝ }
     {
         let OpenList { sheet } = self;
         ClosedList { sheet }
+    }
+
+    pub fn places(&self) -> Places
+        ensures { λ r. ⌜ r ≡ now (self .entry) .sheet .places ⌝ }
+    {
+        self.sheet.places
+    }
+
+    // The rows so far, in order.
+    pub fn rows(&self) -> &[Row]
+        ensures { λ r. ⌜ now r ≡ vec-items (now (self .entry) .sheet .rows) ⌝ }
+    {
+        self.sheet.rows.as_slice()
+    }
+
+    // What the list counts so far for a place.
+    pub fn totals(&self, place: u8) -> Result<Totals, Refusal>
+        ensures { λ r. ⌜ r ≡ totalsAnswer (placesNumber (now (self .entry) .sheet .places)) place (vec-items (now (self .entry) .sheet .rows)) ⌝ }
+    {
+        self.sheet.totals(place)
     }
 }

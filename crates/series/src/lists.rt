@@ -7,6 +7,7 @@ ghost use Rattle.std.specs.Of.Vec.{vec-items, vec-len, vec-cap};
 ghost use Rattle.series.specs.Rows.{areRows};
 use super::rows::Places;
 use super::rows::Row;
+use cards::refusals::Refusal;
 
 // What every list has: its places and at most 48 rows, with room for as many.
 #[derive(Drop)]
@@ -15,23 +16,31 @@ pub(super) struct Sheet {
     pub(super) rows: Vec<Row>,
     ghost few: { vec-len rows ≤ 48 },
     ghost room: { 48 ≤ vec-cap rows },
-    ghost counted: { areRows (vec-items rows) ≡ true },
+    ghost valid: { areRows (vec-items rows) ≡ true },
 }
 
+// A list that takes rows.
 #[derive(Drop)]
 pub struct OpenList {
     pub(super) sheet: Sheet,
 }
 
+// A list that takes no more rows, and has a file.
 #[derive(Drop)]
 pub struct ClosedList {
     pub(super) sheet: Sheet,
 }
 
+// A refusal, with the empty list of three places that there is instead.
+#[derive(Drop)]
+pub struct BadPlaces {
+    pub refusal: Refusal,
+    pub list: OpenList,
+}
+
 // Why no list was opened as asked.
 #[derive(Drop)]
 pub enum NotOpened {
-    // A list has three or four places; here is an empty one of three.
-    NotAList(OpenList),
+    Refused(BadPlaces),
     OutOfMemory,
 }

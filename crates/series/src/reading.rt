@@ -67,7 +67,7 @@ fn read_header(file: &[u8]) -> Result<Header, Refusal>
         return Err(Refusal::FileTooShort);
     }
     if !is_tag(file) {
-        return Err(Refusal::BadTag);
+        return Err(Refusal::WrongTag);
     }
     let Some(places) = Places::from_number(file[4]) else {
         return Err(Refusal::NotAList);
@@ -148,7 +148,7 @@ fn rows_part(file: &[u8], offset: usize) -> &[u8]
 }
 
 // Whether a header that says so many games is right about these rows.
-fn are_games(rows: &[Row], games: usize) -> bool
+fn games_agree(rows: &[Row], games: usize) -> bool
     ensures { λ r. ⌜ r ≡ eqb (gamesOf (now (rows .entry))) games ⌝ }
 {
     count_games(rows) == games
@@ -165,10 +165,10 @@ fn read_list(file: &[u8]) -> Result<Listed, Refusal>
         offset,
     } = read_header(file)?;
     let Some(rows) = read_rows(rows_part(file, offset)) else {
-        return Err(Refusal::BadRow);
+        return Err(Refusal::RowNotAllowed);
     };
-    if !are_games(&rows[0..count], games) {
-        return Err(Refusal::BadGames);
+    if !games_agree(&rows[0..count], games) {
+        return Err(Refusal::WrongGamesCount);
     }
     Ok(Listed {
         places,

@@ -2,7 +2,7 @@
 ghost use mathlib.Core.Path.{_≡_};
 ghost use Rattle.std.specs.Options.{Cases};
 ghost use mathlib.Core.Bool.{false};
-ghost use Rattle.series.specs.Rows.{placesNumber, isPlaces, isWorth, RowMade};
+ghost use Rattle.series.specs.Rows.{placesNumber, isPlaces, isGameValue, RowMade};
 use cards::refusals::Refusal;
 use cards::seats::Seat;
 use cards::seats::SeatEq;
@@ -56,23 +56,23 @@ impl Row {
             return if points.0 == 0 {
                 Ok(Row::PassedIn)
             } else {
-                Err(Refusal::BadPoints)
+                Err(Refusal::PointsNotAllowed)
             };
         }
         let Some(declarer) = Seat::from_number(role) else {
             return Err(Refusal::NoSuchRole);
         };
-        if is_worth(points) {
+        if is_game_value(points) {
             Ok(Row::Game(declarer, points))
         } else {
-            Err(Refusal::BadPoints)
+            Err(Refusal::PointsNotAllowed)
         }
     }
 }
 
 // What a game can count: from -540 to 264, and never 0.
-fn is_worth(points: GamePoints) -> bool
-    ensures { λ r. ⌜ r ≡ isWorth (points .0) ⌝ }
+fn is_game_value(points: GamePoints) -> bool
+    ensures { λ r. ⌜ r ≡ isGameValue (points .0) ⌝ }
 {
     points.0 >= -540 && points.0 <= 264 && points.0 != 0
 }

@@ -9,7 +9,7 @@ ghost use Rattle.std.specs.Of.Vec.{vec-items};
 ghost use Rattle.series.specs.Rows.{placesNumber, pointsOf, isRow, areRows};
 ghost use Rattle.series.specs.Totals.{placeOf as placeIn, sits as sitsIn, declares as declaresIn, defends as defendsIn, isWon, isLost, countsFor, winsIn, losesIn, defendsLossIn, IsTally, ratingOf, totalsAnswer};
 use super::lists::ClosedList;
-use super::lists::OpenList;
+use super::lists::Sheet;
 use super::rows::Places;
 use super::rows::Row;
 use cards::refusals::Refusal;
@@ -29,7 +29,7 @@ pub struct Totals {
 // What the rating is made of.
 #[derive(Clone, Copy, Drop)]
 struct Tally {
-    points: i32,
+    points: GamePoints,
     won: u32,
     lost: u32,
     defended: u32,
@@ -53,6 +53,7 @@ fn sits(places: Places, place: usize, i: usize) -> bool
         || place_of(places, i, Seat::Rearhand) == place
 }
 
+// Whether this place is the declarer of row i.
 fn declares(places: Places, place: usize, i: usize, row: Row) -> bool
     ensures { λ r. ⌜ r ≡ declaresIn (placesNumber places) place i row ⌝ }
 {
@@ -62,6 +63,7 @@ fn declares(places: Places, place: usize, i: usize, row: Row) -> bool
     }
 }
 
+// Whether this place is a defender of row i.
 fn defends(places: Places, place: usize, i: usize, row: Row) -> bool
     ensures { λ r. ⌜ r ≡ defendsIn (placesNumber places) place i row ⌝ }
 {
@@ -82,12 +84,14 @@ impl Row {
         }
     }
 
+    // Whether the row is a game that was won.
     pub fn is_won(self) -> bool
         ensures { λ r. ⌜ r ≡ isWon self ⌝ }
     {
         self.points().0 > 0
     }
 
+    // Whether the row is a game that was lost.
     pub fn is_lost(self) -> bool
         ensures { λ r. ⌜ r ≡ isLost self ⌝ }
     {
@@ -96,35 +100,35 @@ impl Row {
 }
 
 // What row i counts for this place.
-fn points_for(places: Places, place: usize, i: usize, row: Row) -> i32
+fn points_for(places: Places, place: usize, i: usize, row: Row) -> GamePoints
     requires { ⌜ isRow row ≡ true ⌝ }
-    ensures value { λ r. ⌜ r ≡ countsFor (placesNumber places) place i row ⌝ }
-    ensures low { λ r. ⌜ negℤ (pos 540) ≤ℤ r ⌝ }
-    ensures high { λ r. ⌜ r ≤ℤ pos 264 ⌝ }
+    ensures value { λ r. ⌜ r .0 ≡ countsFor (placesNumber places) place i row ⌝ }
+    ensures low { λ r. ⌜ negℤ (pos 540) ≤ℤ r .0 ⌝ }
+    ensures high { λ r. ⌜ r .0 ≤ℤ pos 264 ⌝ }
 {
     if declares(places, place, i, row) {
-        row.points().0
+        row.points()
     } else {
-        0
+        GamePoints(0)
     }
 }
 
 // The tally with row i counted too.
 fn with_row(tally: Tally, places: Places, place: usize, i: usize, row: Row) -> Tally
     requires row { ⌜ i < 48 ⌝ ∗ ⌜ isRow row ≡ true ⌝ }
-    requires points { ⌜ negℤ (pos (540 * i)) ≤ℤ tally .points ⌝ ∗ ⌜ tally .points ≤ℤ pos (264 * i) ⌝ }
+    requires points { ⌜ negℤ (pos (540 * i)) ≤ℤ tally .points .0 ⌝ ∗ ⌜ tally .points .0 ≤ℤ pos (264 * i) ⌝ }
     requires games { ⌜ tally .won ≤ i ⌝ ∗ ⌜ tally .lost ≤ i ⌝ ∗ ⌜ tally .defended ≤ i ⌝ }
-    ensures points { λ r. ⌜ r .points ≡ tally .points +ℤ countsFor (placesNumber places) place i row ⌝ }
+    ensures points { λ r. ⌜ r .points .0 ≡ tally .points .0 +ℤ countsFor (placesNumber places) place i row ⌝ }
     ensures won { λ r. ⌜ r .won ≡ tally .won + cond (winsIn (placesNumber places) place i row) 1 0 ⌝ }
     ensures lost { λ r. ⌜ r .lost ≡ tally .lost + cond (losesIn (placesNumber places) place i row) 1 0 ⌝ }
     ensures defended { λ r. ⌜ r .defended ≡ tally .defended + cond (defendsLossIn (placesNumber places) place i row) 1 0 ⌝ }
-    ensures low { λ r. ⌜ negℤ (pos (540 * (i + 1))) ≤ℤ r .points ⌝ }
-    ensures high { λ r. ⌜ r .points ≤ℤ pos (264 * (i + 1)) ⌝ }
+    ensures low { λ r. ⌜ negℤ (pos (540 * (i + 1))) ≤ℤ r .points .0 ⌝ }
+    ensures high { λ r. ⌜ r .points .0 ≤ℤ pos (264 * (i + 1)) ⌝ }
 {
     let declared = declares(places, place, i, row);
     let defended = defends(places, place, i, row);
     Tally {
-        points: tally.points + points_for(places, place, i, row),
+        points: GamePoints(tally.points.0 + points_for(places, place, i, row).0),
         won: tally.won + (declared & row.is_won()) as u32,
         lost: tally.lost + (declared & row.is_lost()) as u32,
         defended: tally.defended + (defended & row.is_lost()) as u32,
@@ -133,7 +137,7 @@ fn with_row(tally: Tally, places: Places, place: usize, i: usize, row: Row) -> T
 
 // Game points, 50 for each game won, less 50 for each game lost, and 40 for each loss defended.
 fn rating(points: GamePoints, won: u32, lost: u32, defended: u32) -> Rating
-    requires { ⌜ negℤ (pos 25920) ≤ℤ points .0 ⌝ ∗ ⌜ points .0 ≤ℤ pos 12672 ⌝ ∗ ⌜ won ≤ 48 ⌝ ∗ ⌜ lost ≤ 48 ⌝ ∗ ⌜ defended ≤ 48 ⌝ }
+    requires { ⌜ negℤ (pos (540 * 48)) ≤ℤ points .0 ⌝ ∗ ⌜ points .0 ≤ℤ pos (264 * 48) ⌝ ∗ ⌜ won ≤ 48 ⌝ ∗ ⌜ lost ≤ 48 ⌝ ∗ ⌜ defended ≤ 48 ⌝ }
     ensures { λ r. ⌜ r .0 ≡ ratingOf (points .0) won lost defended ⌝ }
 {
     let plus = 50 * won + 40 * defended;
@@ -147,7 +151,7 @@ fn tally_of(places: Places, place: usize, rows: &[Row]) -> Tally
     ensures { λ r. ⌜ IsTally (placesNumber places) place (now (rows .entry)) r ⌝ }
 {
     let mut tally = Tally {
-        points: 0,
+        points: GamePoints(0),
         won: 0,
         lost: 0,
         defended: 0,
@@ -167,21 +171,20 @@ fn totals_of(places: Places, place: u8, rows: &[Row]) -> Result<Totals, Refusal>
         return Err(Refusal::NoSuchEntry);
     }
     let tally = tally_of(places, place as usize, rows);
-    let points = GamePoints(tally.points);
     Ok(Totals {
-        points,
+        points: tally.points,
         won: tally.won,
         lost: tally.lost,
-        rating: rating(points, tally.won, tally.lost, tally.defended),
+        rating: rating(tally.points, tally.won, tally.lost, tally.defended),
     })
 }
 
-impl OpenList {
-    // What the list counts so far for a place.
-    pub fn totals(&self, place: u8) -> Result<Totals, Refusal>
-        ensures { λ r. ⌜ r ≡ totalsAnswer (placesNumber (now (self .entry) .sheet .places)) place (vec-items (now (self .entry) .sheet .rows)) ⌝ }
+impl Sheet {
+    // What the list counts for a place.
+    pub(super) fn totals(&self, place: u8) -> Result<Totals, Refusal>
+        ensures { λ r. ⌜ r ≡ totalsAnswer (placesNumber (now (self .entry) .places)) place (vec-items (now (self .entry) .rows)) ⌝ }
     {
-        totals_of(self.sheet.places, place, self.sheet.rows.as_slice())
+        totals_of(self.places, place, self.rows.as_slice())
     }
 }
 
@@ -192,10 +195,17 @@ impl ClosedList {
         self.sheet.places
     }
 
+    // The rows, in order.
+    pub fn rows(&self) -> &[Row]
+        ensures { λ r. ⌜ now r ≡ vec-items (now (self .entry) .sheet .rows) ⌝ }
+    {
+        self.sheet.rows.as_slice()
+    }
+
     // What the list counts for a place.
     pub fn totals(&self, place: u8) -> Result<Totals, Refusal>
         ensures { λ r. ⌜ r ≡ totalsAnswer (placesNumber (now (self .entry) .sheet .places)) place (vec-items (now (self .entry) .sheet .rows)) ⌝ }
     {
-        totals_of(self.sheet.places, place, self.sheet.rows.as_slice())
+        self.sheet.totals(place)
     }
 }

@@ -1,10 +1,10 @@
 // Examples that a person would try, run against the proved crates. The tests stand apart from
 // those crates, since a crate with tests is proved twice.
 #[cfg(test)]
-mod dealt;
+mod files;
 #[cfg(test)]
-mod filed;
+mod lists;
 #[cfg(test)]
-mod listed;
+mod packs;
 #[cfg(test)]
-mod ranked;
+mod standings;

@@ -9,5 +9,5 @@ returns-in-Ok-read c =
     let sheet = c .read .last .self .sheet in
     let read = c .in-Ok-read .ensures tt in
     made-weaker (c .standing .result) _ _
-    (λ text h. report-standing (c .args .file .now) (string-bytes text) (sheet .places) (vec-items (sheet .rows)) (read .answer) (read .list) h)
+    (λ text h. report-standing (c .args .file .now) (string-bytes text) (sheet .places) (vec-items (sheet .rows)) (read .answer) (read .list .0) (read .list .1) h)
     (c .standing .ensures)

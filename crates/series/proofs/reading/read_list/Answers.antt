@@ -20,13 +20,13 @@ returns-in-rest c =
     let small : (i : ℕ) → getD file i 0 < 256 = λ i. omega (arith, c .typed .file i) in
     part-refused file small (head .0) _ _ _ (c .rows-part .ensures) (head .4) (head .2) (c .in-rest .ensures tt)
 
-pub returns-then-not-are-games : need.returns-then-not-are-games
-returns-then-not-are-games c =
+pub returns-then-not-games-agree : need.returns-then-not-games-agree
+returns-then-not-games-agree c =
     let file = c .args .file .now in
     let head = c .in-Continue-places .ensures tt in
     let small : (i : ℕ) → getD file i 0 < 256 = λ i. omega (arith, c .typed .file i) in
     let room : length (c .in-Some .rows) ≡ 48 = search needs in
-    games-differ file small (head .0) _ _ _ (c .rows-part .ensures) (head .4) (head .2) (c .in-Some .rows) room (c .in-Some .ensures tt) _ (c .are-games .ensures) (head .3) (c .if-not-are-games .taken)
+    games-differ file small (head .0) _ _ _ (c .rows-part .ensures) (head .4) (head .2) (c .in-Some .rows) room (c .in-Some .ensures tt) _ (c .games-agree .ensures) (head .3) (c .if-not-games-agree .taken)
 
 pub returns : need.returns
 returns c =
@@ -34,4 +34,4 @@ returns c =
     let head = c .in-Continue-places .ensures tt in
     let small : (i : ℕ) → getD file i 0 < 256 = λ i. omega (arith, c .typed .file i) in
     let room : length (c .in-Some .rows) ≡ 48 = search needs in
-    list-read file small (head .0) _ _ _ (c .rows-part .ensures) (head .4) (head .2) (c .in-Some .rows) room (c .in-Some .ensures tt) _ (c .are-games .ensures) (head .3) _ (head .1) (c .if-not-are-games .left)
+    list-read file small (head .0) _ _ _ (c .rows-part .ensures) (head .4) (head .2) (c .in-Some .rows) room (c .in-Some .ensures tt) _ (c .games-agree .ensures) (head .3) _ (head .1) (c .if-not-games-agree .left)

@@ -5,12 +5,12 @@ use Prim.Native.Nat.{ℕ, _+_}
 use Rattle.cards.proofs.Handing.{Sent, sent-more}
 use Rattle.cards.proofs.packs.CutPack.deal.Needs as need
 
-pub loop-place-again : need.loop-place-again
-loop-place-again c =
+pub loop-position-again : need.loop-position-again
+loop-position-again c =
     let pack = c .args .self in
     let long : length (pack .cards) ≡ 32 = search needs in
-    let place = c .loop-place .place in
+    let position = c .loop-position .position in
     subst
-    (λ (n : ℕ). Sent (pack .cards) (place + 1) (set (c .loop-place .dealt) n (c .receiver-of .result)))
+    (λ (n : ℕ). Sent (pack .cards) (position + 1) (set (c .loop-position .dealt) n (c .receiver-of .result)))
     (sym (c .number .ensures))
-    (sent-more (pack .cards) (pack .once) long place _ (c .loop-place .dealt) (c .receiver-of .result) (c .loop-place-test .taken) (c .loop-place .inv) (c .receiver-of .ensures))
+    (sent-more (pack .cards) (pack .once) long position _ (c .loop-position .dealt) (c .receiver-of .result) (c .loop-position-test .taken) (c .loop-position .inv) (c .receiver-of .ensures))

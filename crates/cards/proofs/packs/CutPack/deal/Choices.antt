@@ -1,5 +1,5 @@
 use Rattle.cards.proofs.Handing.{Sent}
 use Rattle.cards.proofs.packs.CutPack.deal.Given as given
 
-abbrev pub Inv-loop-place : given.InvT-loop-place
-Inv-loop-place l = Sent (l .cards) (l .place) (l .dealt)
+abbrev pub Inv-loop-position : given.InvT-loop-position
+Inv-loop-position l = Sent (l .cards) (l .position) (l .dealt)

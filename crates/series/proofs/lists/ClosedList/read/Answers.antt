@@ -10,5 +10,5 @@ returns c =
     record {
       answer = said .answer;
       list = said .list;
-      back = read-back (c .args .file .now) (c .reread .result) (old .places) (new .places) (vec-items (old .rows)) (vec-items (new .rows)) (new .counted) (said .answer) (said .list);
+      back = read-back (c .args .file .now) (c .reread .result) (old .places) (new .places) (vec-items (old .rows)) (vec-items (new .rows)) (new .valid) (said .answer) (said .list);
     }

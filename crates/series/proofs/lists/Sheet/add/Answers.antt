@@ -12,6 +12,6 @@ ghost-self c =
       omega (arith, after .len, c .pre .0),
       (
         omega (arith, after .capacity, sheet .room),
-        (ap areRows (after .items) ∙ areRows-push (vec-items (sheet .rows)) (c .args .row) (sheet .counted) (c .pre .1), tt),
+        (ap areRows (after .items) ∙ areRows-push (vec-items (sheet .rows)) (c .args .row) (sheet .valid) (c .pre .1), tt),
       ),
     )

@@ -25,7 +25,7 @@ write-rows-requires c κs =
     let same : length (front ++ drop 16 old) ≡ length old =
     omega (arith, c .pre, length-append front (drop 16 old), length-drop 16 old, c .copy-from-slice .ensures .len, length-take 16 old) in (
       omega (arith, c .pre, c .as-slice-rows .ensures .len, sheet .rows .ok .0, ap length (take-rest (front ++ drop 16 old) 16), length-drop 16 (front ++ drop 16 old)),
-      ap areRows (c .as-slice-rows .ensures .value) ∙ sheet .counted,
+      ap areRows (c .as-slice-rows .ensures .value) ∙ sheet .valid,
     )
 
 pub returns : need.returns

@@ -1,5 +1,6 @@
 // Lists and totals.
 use cards::units::GamePoints;
+use series::lists::BadPlaces;
 use series::lists::NotOpened;
 use series::lists::OpenList;
 use std::test::*;
@@ -64,9 +65,11 @@ fn a_row_is_refused_by_the_topmost_that_fits(rt: LibcRuntime) -> Result<(), Fail
 #[test]
 fn five_places_give_an_empty_list_of_three(rt: LibcRuntime) -> Result<(), Fail> {
     match OpenList::open(rt.alloc(), 5) {
-        Err(NotOpened::NotAList(list)) => {
-            check(list.totals(2).is_ok())?;
-            check(list.totals(3).is_err())
+        Err(NotOpened::Refused(bad)) => {
+            let BadPlaces { refusal, list } = bad;
+            check_eq(refusal.number(), 22)?;
+            check_eq(list.places().number(), 3)?;
+            check(list.rows().is_empty())
         }
         _ => Err(Fail::new("opened")),
     }
