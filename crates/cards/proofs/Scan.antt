@@ -1,6 +1,6 @@
 -- A scan that moves on only to an item ahead of the one it has ends at the first, for `first`.
 -- That none is ahead of it rests on `irreflexive` and `transitive` alone; that it is the earliest such rests on `weak` too.
-use mathlib.Core.Path.{_≡_, refl, sym, ap, _∙_}
+use mathlib.Core.Path.{_≡_, refl, ap, _∙_}
 use mathlib.Core.Bool.{Bool, true, false, cond, _||_}
 use mathlib.Core.List.{List, [], _∷_}
 use mathlib.Core.Logic.{⊎-elim}

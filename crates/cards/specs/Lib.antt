@@ -5,3 +5,4 @@ pub mod Packs
 pub mod Refusals
 pub mod Seats
 pub mod Setting
+pub mod Units

@@ -1,7 +1,6 @@
 // The standing of the places of a list.
 ghost use mathlib.Core.Path.{_≡_};
-ghost use Prim.Native.Nat.{_≤_};
-ghost use lib.ListN.{length, take};
+ghost use lib.ListN.{take};
 ghost use Rattle.std.specs.Of.Vec.{vec-items};
 ghost use Rattle.cards.specs.First.{IsFirst};
 ghost use Rattle.series.specs.Rows.{placesNumber};

@@ -19,7 +19,8 @@ use Rattle.cards.specs.declared.seats.Seat.the-variants.{Forehand, Middlehand, 
 use Rattle.cards.specs.Seats.{seatNumber}
 use Rattle.series.specs.declared.rows.Row.{Row}
 use Rattle.series.specs.declared.rows.Row.the-variants.{PassedIn, Game}
-use Rattle.series.specs.Rows.{roleNumber, pointsOf, isGame, isGameValue, isRow, areRows}
+use Rattle.cards.specs.Units.{isGameValue}
+use Rattle.series.specs.Rows.{roleNumber, pointsOf, isGame, isRow, areRows}
 use Rattle.series.specs.Format.{RawRow, rawOf, rawRows, isRawRow, areRawRows, isRawGame, games, inTwo, inFour, bits16, signed16, rowBytes}
 
 pub back16 : (n : ℕ) → n < 65536 → bits16 (signed16 n) ≡ n

@@ -4,8 +4,8 @@ use mathlib.Core.Bool.{Bool, true, false, not, cond, _&&_, _||_}
 use mathlib.Core.List.{List, [], _∷_, _++_}
 use Prim.Native.Nat.{ℕ}
 use lib.Dec.{eqb, leb}
-use lib.IntN.{ℤ, pos, negℤ}
-use lib.Signed.{ltZ, leZ}
+use lib.IntN.{ℤ, pos}
+use lib.Signed.{leZ}
 use Rattle.std.specs.declared.option.Option.{Option}
 use Rattle.std.specs.declared.option.Option.the-variants.{Some, None}
 use Rattle.std.specs.declared.result.Result.{Result}
@@ -14,6 +14,7 @@ use Rattle.cards.specs.declared.refusals.Refusal.{Refusal}
 use Rattle.cards.specs.declared.refusals.Refusal.the-variants.{NoSuchRole, ListFull, PointsNotAllowed}
 use Rattle.cards.specs.Refusals.{topmost}
 use Rattle.cards.specs.Seats.{seatNumber}
+use Rattle.cards.specs.Units.{isGameValue}
 use Rattle.series.specs.declared.rows.Places.{Places}
 use Rattle.series.specs.declared.rows.Places.the-variants.{Three, Four}
 use Rattle.series.specs.declared.rows.Row.{Row}
@@ -45,10 +46,6 @@ pointsOf (Game declarer points) = points .0
 abbrev pub isGame : Row → Bool
 isGame PassedIn = false
 isGame (Game declarer points) = true
-
--- What a game can count: from −540 to 264, and never 0.
-abbrev pub isGameValue : ℤ → Bool
-isGameValue points = leZ (negℤ (pos 540)) points && leZ points (pos 264) && (ltZ points (pos 0) || ltZ (pos 0) points)
 
 -- Whether a row may stand on a list.
 abbrev pub isRow : Row → Bool

@@ -2,7 +2,8 @@
 ghost use mathlib.Core.Path.{_≡_};
 ghost use Rattle.std.specs.Options.{Cases};
 ghost use mathlib.Core.Bool.{false};
-ghost use Rattle.series.specs.Rows.{placesNumber, isPlaces, isGameValue, RowMade};
+ghost use Rattle.cards.specs.Units.{isGameValue};
+ghost use Rattle.series.specs.Rows.{placesNumber, isPlaces, RowMade};
 use cards::refusals::Refusal;
 use cards::seats::Seat;
 use cards::seats::SeatEq;

@@ -3,6 +3,8 @@
 #[cfg(test)]
 mod files;
 #[cfg(test)]
+mod games;
+#[cfg(test)]
 mod lists;
 #[cfg(test)]
 mod packs;

@@ -1,0 +1,3 @@
+pub mod Games
+pub mod Meanings
+pub mod Tricks

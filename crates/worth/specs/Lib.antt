@@ -1,0 +1,7 @@
+pub mod Announced
+pub mod BidValues
+pub mod Examples
+pub mod Levels
+pub mod Tops
+pub mod Worth
+pub mod WorthLaws
