@@ -14,7 +14,8 @@ use Rattle.worth.specs.declared.finished.Finished.{Finished}
 use Rattle.worth.specs.declared.levels.Level.{Level}
 use Rattle.worth.specs.declared.levels.Level.the-variants.{Plain, Schneider, Schwarz, Ouvert}
 use Rattle.worth.specs.BidValues.{isBid}
-use Rattle.worth.specs.Worth.{oneIf, isSchneider, isSchwarz, stepsAt, factor, isWon, timesIn, trumpWorth, nullValueAt, nullValue, nullWorth, suitBase, grandBase}
+use Rattle.worth.specs.Bases.{nullValueAt, suitBase, grandBase}
+use Rattle.worth.specs.Worth.{oneIf, isSchneider, isSchwarz, stepsAt, factor, isWon, timesIn, trumpWorth, nullValue, nullWorth}
 
 pub bid-range : (value : ℕ) → isBid value ≡ true → (18 ≤ value) × (value ≤ 264)
 bid-range value is = (grind (arith, tells), grind (arith, tells))

@@ -14,7 +14,8 @@ use Rattle.cards.specs.declared.deck.Suit.the-variants.{Diamonds, Hearts, Spade
 use Rattle.worth.specs.declared.announced.Game.{Game}
 use Rattle.worth.specs.declared.announced.Game.the-variants as games
 use Rattle.worth.specs.declared.finished.Finished.{Finished}
-use Rattle.worth.specs.Worth.{suitBase, grandBase, factor, isReached, isWon, timesIn, trumpWorth, nullValue, nullWorth}
+use Rattle.worth.specs.Bases.{suitBase, grandBase}
+use Rattle.worth.specs.Worth.{factor, isReached, isWon, timesIn, trumpWorth, nullValue, nullWorth}
 use Rattle.worth.specs.WorthLaws.{WorthLaws, byHand}
 use Rattle.worth.specs.Examples.{AllHold, examples, diamondTrick}
 use Rattle.worth.specs.Tops.{cardOf}

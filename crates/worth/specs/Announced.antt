@@ -10,7 +10,8 @@ use Rattle.worth.specs.declared.announced.Game.{Game}
 use Rattle.worth.specs.declared.announced.Game.the-variants.{Suit, Grand, Null}
 use Rattle.worth.specs.declared.finished.Finished.{Finished}
 use Rattle.worth.specs.Tops.{suitRun, grandRun}
-use Rattle.worth.specs.Worth.{suitBase, grandBase, trumpWorth, nullWorth}
+use Rattle.worth.specs.Bases.{suitBase, grandBase}
+use Rattle.worth.specs.Worth.{trumpWorth, nullWorth}
 
 abbrev pub gameNumber : Game → ℕ
 gameNumber (Suit game) = suitNumber (game .trump)

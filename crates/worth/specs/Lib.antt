@@ -1,4 +1,5 @@
 pub mod Announced
+pub mod Bases
 pub mod BidValues
 pub mod Examples
 pub mod Levels

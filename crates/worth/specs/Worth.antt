@@ -3,20 +3,10 @@ use mathlib.Core.Bool.{Bool, cond, _&&_, _||_}
 use Prim.Native.Nat.{ℕ, _+_, _-_, _*_, _/_, max}
 use lib.Dec.{eqb, leb}
 use lib.IntN.{ℤ, pos, negℤ}
-use Rattle.cards.specs.declared.deck.Suit.{Suit}
-use Rattle.cards.specs.declared.deck.Suit.the-variants.{Diamonds, Hearts, Spades, Clubs}
 use Rattle.worth.specs.declared.finished.Finished.{Finished}
 use Rattle.worth.specs.declared.levels.Level.{Level}
 use Rattle.worth.specs.declared.levels.Level.the-variants.{Plain, Schneider, Schwarz, Ouvert}
-
-abbrev pub suitBase : Suit → ℕ
-suitBase Diamonds = 9
-suitBase Hearts = 10
-suitBase Spades = 11
-suitBase Clubs = 12
-
-abbrev pub grandBase : ℕ
-grandBase = 24
+use Rattle.worth.specs.Bases.{nullValueAt}
 
 abbrev pub oneIf : Bool → ℕ
 oneIf b = cond b 1 0
@@ -60,13 +50,6 @@ timesIn base bid = (bid + base - 1) / base
 abbrev pub trumpWorth : ℕ → ℕ → Finished → ℤ
 trumpWorth base tops game =
     cond (isWon base tops game) (pos (base * factor tops game)) (negℤ (pos (2 * (base * max (factor tops game) (timesIn base (game .bid .value))))))
-
--- Null counts 23, by hand 35, ouvert 46, ouvert by hand 59.
-abbrev pub nullValueAt : Level → Bool → ℕ
-nullValueAt Plain hand = cond hand 35 23
-nullValueAt Schneider hand = cond hand 35 23
-nullValueAt Schwarz hand = cond hand 35 23
-nullValueAt Ouvert hand = cond hand 59 46
 
 abbrev pub nullValue : Finished → ℕ
 nullValue game = nullValueAt (game .level) (game .hand)

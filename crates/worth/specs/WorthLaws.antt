@@ -11,7 +11,8 @@ use Rattle.worth.specs.declared.finished.Finished.{Finished}
 use Rattle.cards.specs.declared.units.Eyes.{Eyes}
 use Rattle.worth.specs.Announced.{gameCounts}
 use Rattle.worth.specs.Levels.{isOpenLevel}
-use Rattle.worth.specs.Worth.{suitBase, grandBase, isWon, nullValue}
+use Rattle.worth.specs.Bases.{suitBase, grandBase}
+use Rattle.worth.specs.Worth.{isWon, nullValue}
 
 -- Whether a game was won.
 abbrev pub isWonGame : Game → ℕ → Finished → Bool
@@ -52,7 +53,7 @@ byHand finished = record {
   defenders = finished .defenders;
 }
 
--- For every announcement that is open.
+-- What holds of every announcement that is open; only the first law needs that it is.
 pub record WorthLaws (game : Game) (tops : ℕ) (finished : Finished) : Type 0 where
   -- A game that is won counts at least the bid, and more than 0.
   pub won : IsOpen game finished → isWonGame game tops finished ≡ true → (pos (finished .bid .value) ≤ℤ gameCounts game tops finished) × (pos 0 <ℤ gameCounts game tops finished)

@@ -1,7 +1,8 @@
 // What suit games, grand and null are worth.
 ghost use mathlib.Core.List.{[]};
 ghost use Rattle.worth.specs.Tops.{suitRun, grandRun};
-ghost use Rattle.worth.specs.Worth.{suitBase, grandBase, trumpWorth, nullWorth};
+ghost use Rattle.worth.specs.Bases.{suitBase, grandBase};
+ghost use Rattle.worth.specs.Worth.{trumpWorth, nullWorth};
 use super::finished::Finished;
 use super::rated::RatedKind;
 use super::values::null_worth;

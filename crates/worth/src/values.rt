@@ -2,7 +2,8 @@
 ghost use mathlib.Core.Path.{_≡_};
 ghost use Prim.Native.Nat.{_*_, _≤_, _<_};
 ghost use lib.IntN.{pos, negℤ};
-ghost use Rattle.worth.specs.Worth.{suitBase, oneIf, isSchneider, isSchwarz, stepsAt, factor as factorOf, isReached, timesIn, trumpWorth, nullValueAt, nullWorth};
+ghost use Rattle.worth.specs.Bases.{suitBase, nullValueAt};
+ghost use Rattle.worth.specs.Worth.{oneIf, isSchneider, isSchwarz, stepsAt, factor as factorOf, isReached, timesIn, trumpWorth, nullWorth};
 use super::finished::Finished;
 use super::levels::Level;
 use cards::deck::Suit;
