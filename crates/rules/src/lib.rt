@@ -1,5 +1,7 @@
 // How a deal moves: the plain record of a table, the rules of every call, and the code of the seven
 // acting calls.
+#![tactic(auto)]
+
 pub mod acting;
 pub mod announcing;
 pub mod bidding;

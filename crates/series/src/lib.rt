@@ -1,4 +1,6 @@
 // What is written down: the list of a series, its totals and its file.
+#![tactic(auto)]
+
 pub mod entering;
 pub mod lines;
 pub mod lists;

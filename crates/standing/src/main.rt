@@ -1,4 +1,6 @@
 // Reads the file of a list from standard input and prints the report on it.
+#![tactic(auto)]
+
 use ranking::reports::report;
 use std::io;
 use std::io::Read;

@@ -1,5 +1,7 @@
 // Examples that a person would try, run against the proved crates. The tests stand apart from
 // those crates, since a crate with tests is proved twice.
+#![tactic(auto)]
+
 #[cfg(test)]
 mod files;
 #[cfg(test)]

@@ -1,4 +1,6 @@
 // What a game is worth: bids, tops, and what a finished game counts.
+#![tactic(auto)]
+
 pub mod announced;
 pub mod bidding;
 pub mod bids;
