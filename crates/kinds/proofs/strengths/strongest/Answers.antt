@@ -12,7 +12,7 @@ returns g c =
     let trick = c.args.trick in
     let three : length trick ≡ 3 = search rules in
     let first : (d : Card) → IsFirst (beats m (get_or trick 0 d)) trick c.in-Some.i =
-    λ d. first_of_trick m _ d _ _ _ trick c.in-Some.i three c.of-card.ensures c.of-card-2.ensures c.of-card-3.ensures c.in-Some.ensures in
+    λ d. first_of_trick m _ d _ _ _ trick c.in-Some.i three c.of_card.ensures c.of_card-2.ensures c.of_card-3.ensures c.in-Some.ensures in
     record {
       first = first;
       only = λ different d. only_unbeaten m (g.met.K.Kind.apart c.args.kind.now) trick three d c.in-Some.i (omega (arith, (first d).0)) (first d).1 different;

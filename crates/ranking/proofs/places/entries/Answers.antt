@@ -19,8 +19,8 @@ loop-place-preserved c =
     let bound : c.number-place-end.result ≡ n = c.number-place-end.ensures ∙ ap places_number c.places.ensures in
     let lt : k < n = omega arith in
     let is = answer_is k n c.in-Ok.totals (totals_of n k rows) NoSuchEntry lt c.in-Ok.ensures in (
-      length-set entries k c.entry-of.result ∙ long,
-      entries_more n rows k entries c.entry-of.result c.in-Ok.totals (omega (arith, few_places sheet.places)) c.loop-place.invariant.1 is c.entry-of.ensures,
+      length-set entries k c.entry_of.result ∙ long,
+      entries_more n rows k entries c.entry_of.result c.in-Ok.totals (omega (arith, few_places sheet.places)) c.loop-place.invariant.1 is c.entry_of.ensures,
     )
 
 pub returns : goal.returns

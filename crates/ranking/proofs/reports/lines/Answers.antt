@@ -14,16 +14,16 @@ unreachable-requires c =
     let sheet = c.args.list.now.sheet in
     let n = places_number sheet.places in
     let bound : c.number-place-end.result ≡ n = c.number-place-end.ensures ∙ ap places_number c.places.ensures in
-    no_refusal c.loop-place.place n (totals_of n c.loop-place.place (vec_items sheet.rows)) c.in-default.field-0 NoSuchEntry (omega arith) c.in-default.ensures
+    no_refusal c.loop-place.place n (totals_of n c.loop-place.place (vec_items sheet.rows)) c.in_default.field-0 NoSuchEntry (omega arith) c.in_default.ensures
 
-pub unreachable-requires-in-default-rank-of : goal.unreachable-requires-in-default-rank-of
-unreachable-requires-in-default-rank-of c =
+pub unreachable-requires-in_default-rank_of : goal.unreachable-requires-in_default-rank_of
+unreachable-requires-in_default-rank_of c =
     let sheet = c.args.list.now.sheet in
     let n = places_number sheet.places in
     let entries = entries_of n (vec_items sheet.rows) in
     let bound : c.number-place-end.result ≡ n = c.number-place-end.ensures ∙ ap places_number c.places.ensures in
     let long = length_entries n (vec_items sheet.rows) entries refl in
-    no_refusal c.loop-place.place (length entries) (rank_at entries c.loop-place.place) c.in-default-rank-of.field-0 NoSuchEntry (omega arith) c.in-default-rank-of.ensures
+    no_refusal c.loop-place.place (length entries) (rank_at entries c.loop-place.place) c.in_default-rank_of.field-0 NoSuchEntry (omega arith) c.in_default-rank_of.ensures
 
 pub loop-place-preserved : goal.loop-place-preserved
 loop-place-preserved c =
@@ -36,14 +36,14 @@ loop-place-preserved c =
     let long = length_entries n rows entries refl in
     let lt : k < n = omega arith in
     let total = answer_is k n c.in-Ok.totals (totals_of n k rows) NoSuchEntry lt c.in-Ok.ensures in
-    let ranked = answer_is k (length entries) c.in-Ok-rank-of.rank (rank_at entries k) NoSuchEntry (omega arith) c.in-Ok-rank-of.ensures in
-    let line : string_bytes c.in-ok-line.line ≡ place_text n rows k =
-    c.in-ok-line.ensures
-    ∙ (ap (λ t. line_text k t c.in-Ok-rank-of.rank) total
+    let ranked = answer_is k (length entries) c.in-Ok-rank_of.rank (rank_at entries k) NoSuchEntry (omega arith) c.in-Ok-rank_of.ensures in
+    let line : string_bytes c.in_ok-line.line ≡ place_text n rows k =
+    c.in_ok-line.ensures
+    ∙ (ap (λ t. line_text k t c.in-Ok-rank_of.rank) total
     ∙ ap (line_text k (totals_of n k rows)) ranked) in
-    text_more (place_text n rows) k (string_bytes c.loop-place.text) (string_bytes c.push-str.new.self) c.loop-place.invariant
-    (pushed c.as-str.result.now refl c.in-ok-push-str.was c.push-str.ensures.bytes
-    ∙ ap (λ bytes. string_bytes c.loop-place.text ++ bytes) (c.as-str.ensures.value ∙ line))
+    text_more (place_text n rows) k (string_bytes c.loop-place.text) (string_bytes c.push_str.new.self) c.loop-place.invariant
+    (pushed c.as_str.result.now refl c.in_ok-push_str.was c.push_str.ensures.bytes
+    ∙ ap (λ bytes. string_bytes c.loop-place.text ++ bytes) (c.as_str.ensures.value ∙ line))
 
 pub returns : goal.returns
 returns c =

@@ -8,8 +8,8 @@ returns-in-0 g c =
 
 pub returns-in-1 : goal.returns-in-1
 returns-in-1 g c =
-    takes_second (g.K.Kind.meaning c.args.kind.now) c.args.leader c.args.a c.args.b c.args.c c.strongest.result (c.strongest.ensures.first c.args.a) c.in-1.is c.seat-after.result c.seat-after.ensures
+    takes_second (g.K.Kind.meaning c.args.kind.now) c.args.leader c.args.a c.args.b c.args.c c.strongest.result (c.strongest.ensures.first c.args.a) c.in-1.is c.seat_after.result c.seat_after.ensures
 
-pub returns-in-default : goal.returns-in-default
-returns-in-default g c =
-    takes_third (g.K.Kind.meaning c.args.kind.now) c.args.leader c.args.a c.args.b c.args.c c.strongest.result (c.strongest.ensures.first c.args.a) (omega arith) c.seat-after-in-default.result c.seat-after-in-default-2.result c.seat-after-in-default.ensures c.seat-after-in-default-2.ensures
+pub returns-in_default : goal.returns-in_default
+returns-in_default g c =
+    takes_third (g.K.Kind.meaning c.args.kind.now) c.args.leader c.args.a c.args.b c.args.c c.strongest.result (c.strongest.ensures.first c.args.a) (omega arith) c.seat_after-in_default.result c.seat_after-in_default-2.result c.seat_after-in_default.ensures c.seat_after-in_default-2.ensures

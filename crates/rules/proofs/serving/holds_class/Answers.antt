@@ -7,13 +7,13 @@ loop-number-init g c = unmet_none (g.K.Kind.meaning c.args.kind.now) c.args.clas
 
 pub returns-then-class : goal.returns-then-class
 returns-then-class g c =
-    met (g.K.Kind.meaning c.args.kind.now) c.args.class c.args.seat c.args.piles.now c.told-piles c.loop-number.number c.loop-number.invariant c.card-at.result c.class.result c.loop-number-test.true c.if-holds.ensures c.card-at.ensures c.class.ensures c.if-class.true
+    met (g.K.Kind.meaning c.args.kind.now) c.args.class c.args.seat c.args.piles.now c.told-piles c.loop-number.number c.loop-number.invariant c.card_at.result c.class.result c.loop-number-test.true c.if-holds.ensures c.card_at.ensures c.class.ensures c.if-class.true
 
 pub loop-number-preserved : goal.loop-number-preserved
 loop-number-preserved g c =
     elim c.else-holds.branch [
       | else-holds-via-then-holds+else-class w ↦
-          unmet_class (g.K.Kind.meaning c.args.kind.now) c.args.class c.args.seat c.args.piles.now c.told-piles c.loop-number.number c.loop-number.invariant w.card-at.result w.class.result c.loop-number-test.true w.if-holds.ensures w.card-at.ensures w.class.ensures w.if-class.false
+          unmet_class (g.K.Kind.meaning c.args.kind.now) c.args.class c.args.seat c.args.piles.now c.told-piles c.loop-number.number c.loop-number.invariant w.card_at.result w.class.result c.loop-number-test.true w.if-holds.ensures w.card_at.ensures w.class.ensures w.if-class.false
       | else-holds-via-else-holds w ↦
           unmet_card (g.K.Kind.meaning c.args.kind.now) c.args.class c.args.seat c.args.piles.now c.told-piles c.loop-number.number c.loop-number.invariant c.loop-number-test.true w.if-holds.ensures
     ]

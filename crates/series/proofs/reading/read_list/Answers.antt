@@ -9,25 +9,25 @@ returns-in-err-places c =
     let p = err_from_is_err_and c.from-residual.result c.from-residual.ensures.1 in
     rw (p.1, p.2) (header_refused c.args.file.now _ c.in-err-places.ensures)
 
-pub returns-in-default : goal.returns-in-default
-returns-in-default c =
+pub returns-in_default : goal.returns-in_default
+returns-in_default c =
     let file = c.args.file.now in
-    let head = c.in-ok-places.ensures in
+    let head = c.in_ok-places.ensures in
     let small : (i : ℕ) → get_or file i 0 < 256 = λ i. omega (arith, c.type-inv.file i) in
-    part_refused file small head.0 _ _ _ c.rows-part.ensures head.4 head.2 c.in-default.ensures
+    part_refused file small head.0 _ _ _ c.rows_part.ensures head.4 head.2 c.in_default.ensures
 
-pub returns-then-not-games-agree : goal.returns-then-not-games-agree
-returns-then-not-games-agree c =
+pub returns-then-not-games_agree : goal.returns-then-not-games_agree
+returns-then-not-games_agree c =
     let file = c.args.file.now in
-    let head = c.in-ok-places.ensures in
+    let head = c.in_ok-places.ensures in
     let small : (i : ℕ) → get_or file i 0 < 256 = λ i. omega (arith, c.type-inv.file i) in
     let room : length c.in-Some.rows ≡ 48 = search rules in
-    games_differ file small head.0 _ _ _ c.rows-part.ensures head.4 head.2 c.in-Some.rows room c.in-Some.ensures _ c.games-agree.ensures head.3 c.if-not-games-agree.true
+    games_differ file small head.0 _ _ _ c.rows_part.ensures head.4 head.2 c.in-Some.rows room c.in-Some.ensures _ c.games_agree.ensures head.3 c.if-not-games_agree.true
 
 pub returns : goal.returns
 returns c =
     let file = c.args.file.now in
-    let head = c.in-ok-places.ensures in
+    let head = c.in_ok-places.ensures in
     let small : (i : ℕ) → get_or file i 0 < 256 = λ i. omega (arith, c.type-inv.file i) in
     let room : length c.in-Some.rows ≡ 48 = search rules in
-    list_read file small head.0 _ _ _ c.rows-part.ensures head.4 head.2 c.in-Some.rows room c.in-Some.ensures _ c.games-agree.ensures head.3 _ head.1 c.if-not-games-agree.false
+    list_read file small head.0 _ _ _ c.rows_part.ensures head.4 head.2 c.in-Some.rows room c.in-Some.ensures _ c.games_agree.ensures head.3 _ head.1 c.if-not-games_agree.false

@@ -5,8 +5,8 @@ use Rattle.series.proofs.reading.read_rows.Goals as goal
 pub loop-i-init : goal.loop-i-init
 loop-i-init c = front_none c.args.part.now _
 
-pub returns-in-default : goal.returns-in-default
-returns-in-default c = front_bad _ _ _ c.loop-i.invariant (omega arith) c.in-default.ensures
+pub returns-in_default : goal.returns-in_default
+returns-in_default c = front_bad _ _ _ c.loop-i.invariant (omega arith) c.in_default.ensures
 
 pub loop-i-preserved : goal.loop-i-preserved
 loop-i-preserved c =

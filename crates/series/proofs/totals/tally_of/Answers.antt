@@ -5,8 +5,8 @@ use Rattle.series.proofs.totals.tally_of.Goals as goal
 pub loop-i-init : goal.loop-i-init
 loop-i-init c = counted_none _ _ _
 
-pub with-row-tally-requires : goal.with-row-tally-requires
-with-row-tally-requires c =
+pub with_row-tally-requires : goal.with_row-tally-requires
+with_row-tally-requires c =
     let sofar = c.loop-i.invariant in
     record {
       row = (omega (arith, c.requires.0), row_at c.args.rows.now _ _ c.requires.1 c.loop-i-test.true);
@@ -16,7 +16,7 @@ with-row-tally-requires c =
 
 pub loop-i-preserved : goal.loop-i-preserved
 loop-i-preserved c =
-    let after = c.with-row-tally.ensures in
+    let after = c.with_row-tally.ensures in
     counted-more _ _ _ _ _ _ _ c.loop-i.invariant c.loop-i-test.true after.points after.won after.lost after.defended after.low after.high
 
 pub returns : goal.returns

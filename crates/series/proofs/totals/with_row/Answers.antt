@@ -12,10 +12,10 @@ counted n a b x y p q = ap (λ k. n + k) (ap (λ t. bool_byte (t && b)) p ∙ (a
 
 pub returns : goal.returns
 returns c = record {
-  points = let v = c.points-for.ensures.value in omega (arith, ints, v);
-  won = counted _ _ _ _ _ c.declares-declared.ensures c.is-won.ensures;
-  lost = counted _ _ _ _ _ c.declares-declared.ensures c.is-lost.ensures;
-  defended = counted _ _ _ _ _ c.defends-defended.ensures c.is-lost-2.ensures;
-  low = omega (arith, ints, c.points-for.ensures.low);
-  high = omega (arith, ints, c.points-for.ensures.high);
+  points = let v = c.points_for.ensures.value in omega (arith, ints, v);
+  won = counted _ _ _ _ _ c.declares-declared.ensures c.is_won.ensures;
+  lost = counted _ _ _ _ _ c.declares-declared.ensures c.is_lost.ensures;
+  defended = counted _ _ _ _ _ c.defends-defended.ensures c.is_lost-2.ensures;
+  low = omega (arith, ints, c.points_for.ensures.low);
+  high = omega (arith, ints, c.points_for.ensures.high);
 }

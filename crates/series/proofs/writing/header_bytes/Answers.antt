@@ -14,4 +14,4 @@ fields_are places rows games n p q r h i j k = cc
 
 pub returns : goal.returns
 returns c =
-    fields_are (places_number c.args.places) c.args.rows c.args.games _ _ _ _ c.number.ensures c.to-le-bytes.ensures c.to-le-bytes-2.ensures c.to-le-bytes-3.ensures
+    fields_are (places_number c.args.places) c.args.rows c.args.games _ _ _ _ c.number.ensures c.to_le_bytes.ensures c.to_le_bytes-2.ensures c.to_le_bytes-3.ensures

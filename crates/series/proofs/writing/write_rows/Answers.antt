@@ -6,12 +6,12 @@ use Rattle.series.proofs.Blocks.{row_put}
 use Rattle.series.proofs.Counting.{row_at}
 use Rattle.series.proofs.writing.write_rows.Goals as goal
 
-pub write-row-requires : goal.write-row-requires
-write-row-requires c = (simp (length-take, length-drop) (omega (arith, c.requires.0)), row_at c.args.rows.now _ _ c.requires.1 c.loop-i-test.true)
+pub write_row-requires : goal.write_row-requires
+write_row-requires c = (simp (length-take, length-drop) (omega (arith, c.requires.0)), row_at c.args.rows.now _ _ c.requires.1 c.loop-i-test.true)
 
 pub loop-i-preserved : goal.loop-i-preserved
 loop-i-preserved c =
-    row_put c.args.rows.now c.args.buffer.now c.loop-i.buffer c.write-row.new.buffer _ _ c.loop-i-test.true c.loop-i.invariant c.write-row.ensures
+    row_put c.args.rows.now c.args.buffer.now c.loop-i.buffer c.write_row.new.buffer _ _ c.loop-i-test.true c.loop-i.invariant c.write_row.ensures
 
 pub returns : goal.returns
 returns c =

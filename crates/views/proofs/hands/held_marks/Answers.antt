@@ -4,7 +4,7 @@ use Rattle.views.proofs.hands.held_marks.Goals as goal
 
 pub loop-i-preserved : goal.loop-i-preserved
 loop-i-preserved c =
-    marks_more (is_held c.args.seat) c.args.piles.now c.loop-i.i c.loop-i.marks c.told-piles c.loop-i.invariant c.is-held.result _ c.loop-i-test.true c.is-held.ensures
+    marks_more (is_held c.args.seat) c.args.piles.now c.loop-i.i c.loop-i.marks c.told-piles c.loop-i.invariant c.is_held.result _ c.loop-i-test.true c.is_held.ensures
 
 pub returns : goal.returns
 returns c =

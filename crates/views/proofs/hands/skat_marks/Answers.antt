@@ -4,7 +4,7 @@ use Rattle.views.proofs.hands.skat_marks.Goals as goal
 
 pub loop-i-preserved : goal.loop-i-preserved
 loop-i-preserved c =
-    marks_more is_in_skat c.args.piles.now c.loop-i.i c.loop-i.marks c.told-piles c.loop-i.invariant c.is-in-skat.result _ c.loop-i-test.true c.is-in-skat.ensures
+    marks_more is_in_skat c.args.piles.now c.loop-i.i c.loop-i.marks c.told-piles c.loop-i.invariant c.is_in_skat.result _ c.loop-i-test.true c.is_in_skat.ensures
 
 pub returns : goal.returns
 returns c =

@@ -8,19 +8,19 @@ loop-number-init c = (eyes_none is_declarers c.args.piles.now, eyes_none is_defe
 
 pub overflow-add-declarer : goal.overflow-add-declarer
 overflow-add-declarer c =
-    let more = eyes_more is_declarers c.args.piles.now c.loop-number.number c.card-at-card.result _ c.is-declarers.result c.eyes-if-declarer.result c.told-piles c.loop-number-test.true c.card-at-card.ensures c.is-declarers.ensures c.eyes-if-declarer.ensures in
+    let more = eyes_more is_declarers c.args.piles.now c.loop-number.number c.card_at-card.result _ c.is_declarers.result c.eyes_if-declarer.result c.told-piles c.loop-number-test.true c.card_at-card.ensures c.is_declarers.ensures c.eyes_if-declarer.ensures in
     omega (arith, more, c.loop-number.invariant.0, eyes_most is_declarers c.args.piles.now (c.loop-number.number + 1))
 
 pub overflow-add-defenders : goal.overflow-add-defenders
 overflow-add-defenders c =
-    let more = eyes_more is_defenders c.args.piles.now c.loop-number.number c.card-at-card.result _ c.is-defenders.result c.eyes-if-defenders.result c.told-piles c.loop-number-test.true c.card-at-card.ensures c.is-defenders.ensures c.eyes-if-defenders.ensures in
+    let more = eyes_more is_defenders c.args.piles.now c.loop-number.number c.card_at-card.result _ c.is_defenders.result c.eyes_if-defenders.result c.told-piles c.loop-number-test.true c.card_at-card.ensures c.is_defenders.ensures c.eyes_if-defenders.ensures in
     omega (arith, more, c.loop-number.invariant.1, eyes_most is_defenders c.args.piles.now (c.loop-number.number + 1))
 
 pub loop-number-preserved : goal.loop-number-preserved
 loop-number-preserved c =
-    let ours = eyes_more is_declarers c.args.piles.now c.loop-number.number c.card-at-card.result _ c.is-declarers.result c.eyes-if-declarer.result c.told-piles c.loop-number-test.true c.card-at-card.ensures c.is-declarers.ensures c.eyes-if-declarer.ensures in
-    let theirs = eyes_more is_defenders c.args.piles.now c.loop-number.number c.card-at-card.result _ c.is-defenders.result c.eyes-if-defenders.result c.told-piles c.loop-number-test.true c.card-at-card.ensures c.is-defenders.ensures c.eyes-if-defenders.ensures in
-    (ap (λ n. n + c.eyes-if-declarer.result) c.loop-number.invariant.0 ∙ sym ours, ap (λ n. n + c.eyes-if-defenders.result) c.loop-number.invariant.1 ∙ sym theirs)
+    let ours = eyes_more is_declarers c.args.piles.now c.loop-number.number c.card_at-card.result _ c.is_declarers.result c.eyes_if-declarer.result c.told-piles c.loop-number-test.true c.card_at-card.ensures c.is_declarers.ensures c.eyes_if-declarer.ensures in
+    let theirs = eyes_more is_defenders c.args.piles.now c.loop-number.number c.card_at-card.result _ c.is_defenders.result c.eyes_if-defenders.result c.told-piles c.loop-number-test.true c.card_at-card.ensures c.is_defenders.ensures c.eyes_if-defenders.ensures in
+    (ap (λ n. n + c.eyes_if-declarer.result) c.loop-number.invariant.0 ∙ sym ours, ap (λ n. n + c.eyes_if-defenders.result) c.loop-number.invariant.1 ∙ sym theirs)
 
 pub returns : goal.returns
 returns c =

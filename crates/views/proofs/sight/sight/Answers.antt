@@ -8,5 +8,5 @@ returns-in-err-seat c = record { answer = search rules; buffer = search rules }
 
 pub returns : goal.returns
 returns c =
-    let saw = seen c.args.deal.now c.in-ok-seat.seat c.args.buffer.now (seat_at c.args.seat) c.in-ok-seat.ensures in
-    record { answer = saw.0; buffer = c.write-sight.ensures ∙ saw.1 }
+    let saw = seen c.args.deal.now c.in_ok-seat.seat c.args.buffer.now (seat_at c.args.seat) c.in_ok-seat.ensures in
+    record { answer = saw.0; buffer = c.write_sight.ensures ∙ saw.1 }

@@ -8,6 +8,6 @@ loop-position-preserved c =
     let long : length pack.cards ≡ 32 = search rules in
     let position = c.loop-position.position in
     subst
-    (λ (n : ℕ). Sent pack.cards (position + 1) (set c.loop-position.dealt n c.receiver-of.result))
+    (λ (n : ℕ). Sent pack.cards (position + 1) (set c.loop-position.dealt n c.receiver_of.result))
     (sym c.number.ensures)
-    (sent_more pack.cards pack.once long position _ c.loop-position.dealt c.receiver-of.result c.loop-position-test.true c.loop-position.invariant c.receiver-of.ensures)
+    (sent_more pack.cards pack.once long position _ c.loop-position.dealt c.receiver_of.result c.loop-position-test.true c.loop-position.invariant c.receiver_of.ensures)

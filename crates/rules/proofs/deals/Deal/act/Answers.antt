@@ -6,12 +6,12 @@ use Rattle.rules.proofs.deals.Deal.act.Goals as goal
 
 pub apply-requires : goal.apply-requires
 apply-requires g c =
-    let parts = none_of (g.K.Kind.meaning c.args.kind.now) c.args.self.now.common (holding c.in-Some.seat c.args.self.now.piles) c.in-Some.seat c.args.call c.refusal.result c.refusal.ensures c.in-default-refusal.is in
+    let parts = none_of (g.K.Kind.meaning c.args.kind.now) c.args.self.now.common (holding c.in-Some.seat c.args.self.now.piles) c.in-Some.seat c.args.call c.refusal.result c.refusal.ensures c.in_default-refusal.is in
     record { row = parts.0; own = parts.1; few = c.requires.few }
 
 pub returns : goal.returns
 returns g c =
-    let parts = none_of (g.K.Kind.meaning c.args.kind.now) c.args.self.now.common (holding c.in-Some.seat c.args.self.now.piles) c.in-Some.seat c.args.call c.refusal.result c.refusal.ensures c.in-default-refusal.is in
+    let parts = none_of (g.K.Kind.meaning c.args.kind.now) c.args.self.now.common (holding c.in-Some.seat c.args.self.now.piles) c.in-Some.seat c.args.call c.refusal.result c.refusal.ensures c.in_default-refusal.is in
     record {
       answer = search rules;
       deal = search rules;

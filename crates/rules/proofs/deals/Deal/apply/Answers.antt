@@ -8,7 +8,7 @@ returns-in-Bidding-Bid g c =
 
 pub returns-in-Hearing-Hold : goal.returns-in-Hearing-Hold
 returns-in-Hearing-Hold g c =
-    held (g.K.Kind.meaning c.args.kind.now) c.args.self.now c.args.seat c.bids-next-self.result c.args.call Hearing c.in-Hearing-Hold.is-1 c.in-Hearing-Hold.is-0 c.bids-next-self.ensures
+    held (g.K.Kind.meaning c.args.kind.now) c.args.self.now c.args.seat c.bids_next-self.result c.args.call Hearing c.in-Hearing-Hold.is-1 c.in-Hearing-Hold.is-0 c.bids_next-self.ensures
 
 pub returns-in-Alone-Hold : goal.returns-in-Alone-Hold
 returns-in-Alone-Hold g c =
@@ -16,12 +16,12 @@ returns-in-Alone-Hold g c =
 
 pub returns-in-Bidding-Pass : goal.returns-in-Bidding-Pass
 returns-in-Bidding-Pass g c =
-    passed (g.K.Kind.meaning c.args.kind.now) c.args.self.now c.args.seat c.bidder-passes-self.result c.args.call Bidding c.in-Bidding-Pass.is-1 c.in-Bidding-Pass.is-0 c.bidder-passes-self.ensures
+    passed (g.K.Kind.meaning c.args.kind.now) c.args.self.now c.args.seat c.bidder_passes-self.result c.args.call Bidding c.in-Bidding-Pass.is-1 c.in-Bidding-Pass.is-0 c.bidder_passes-self.ensures
 
 pub returns-in-Hearing-Pass : goal.returns-in-Hearing-Pass
 returns-in-Hearing-Pass g c =
-    passed (g.K.Kind.meaning c.args.kind.now) c.args.self.now c.args.seat c.hearer-passes-self.result c.args.call Hearing c.in-Hearing-Pass.is-1 c.in-Hearing-Pass.is-0 c.hearer-passes-self.ensures
+    passed (g.K.Kind.meaning c.args.kind.now) c.args.self.now c.args.seat c.hearer_passes-self.result c.args.call Hearing c.in-Hearing-Pass.is-1 c.in-Hearing-Pass.is-0 c.hearer_passes-self.ensures
 
 pub returns-in-Alone-Pass : goal.returns-in-Alone-Pass
 returns-in-Alone-Pass g c =
-    passed (g.K.Kind.meaning c.args.kind.now) c.args.self.now c.args.seat c.passed-in-self.result c.args.call Alone c.in-Alone-Pass.is-1 c.in-Alone-Pass.is-0 c.passed-in-self.ensures
+    passed (g.K.Kind.meaning c.args.kind.now) c.args.self.now c.args.seat c.passed_in-self.result c.args.call Alone c.in-Alone-Pass.is-1 c.in-Alone-Pass.is-0 c.passed_in-self.ensures

@@ -6,7 +6,7 @@ use Rattle.series.proofs.lists.Sheet.add.Goals as goal
 pub invariant-of-self : goal.invariant-of-self
 invariant-of-self c =
     let sheet = c.args.self.now in
-    let after = c.push-reserved.ensures in (
+    let after = c.push_reserved.ensures in (
       omega (arith, after.len, c.requires.0),
       (
         omega (arith, after.capacity, sheet.room),

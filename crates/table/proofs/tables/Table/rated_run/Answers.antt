@@ -11,8 +11,8 @@ loop-i-init g c = answered_none (g.K.Kind.meaning c.args.kind.now) (Some (record
 pub loop-i-preserved : goal.loop-i-preserved
 loop-i-preserved g c =
     answered_more (g.K.Kind.meaning c.args.kind.now) (Some (record { run = g.K.RatedKind.run c.args.kind.now; counts = g.K.RatedKind.counts c.args.kind.now })) c.set-table.result.deal c.args.asked.now c.loop-i.i
-    c.loop-i.table.deal c.loop-i.asked c.loop-i.invariant _ c.rated-reply.new.self.deal c.rated-reply.result
-    (omega (arith, c.loop-i-test.true, c.loop-i.auto.asked)) c.rated-reply.ensures.deal c.rated-reply.ensures.answer
+    c.loop-i.table.deal c.loop-i.asked c.loop-i.invariant _ c.rated_reply.new.self.deal c.rated_reply.result
+    (omega (arith, c.loop-i-test.true, c.loop-i.auto.asked)) c.rated_reply.ensures.deal c.rated_reply.ensures.answer
 
 pub returns : goal.returns
 returns g c =
