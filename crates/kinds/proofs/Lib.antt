@@ -1,2 +1,2 @@
-mod Strengths
+mod FirstStrength
 mod Unbeaten

@@ -2,7 +2,7 @@ use Rattle.std.proofs.Common.{◌≡◌, length, get_or, arith, rules}
 use Rattle.cards.specs.declared.deck.Card.{Card}
 use Rattle.cards.specs.First.{IsFirst}
 use Rattle.kinds.specs.Tricks.{beats}
-use Rattle.kinds.proofs.Strengths.{first_of_trick}
+use Rattle.kinds.proofs.FirstStrength.{first_of_trick}
 use Rattle.kinds.proofs.Unbeaten.{only_unbeaten}
 use Rattle.kinds.proofs.strengths.strongest.Goals as goal
 
