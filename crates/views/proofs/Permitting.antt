@@ -1,6 +1,6 @@
 -- The cards that may be played, gathered as bits in one pass, for `playable` and `permitted`.
 use Rattle.std.proofs.Common.{◌≡◌, ℕ, zero, suc, ◌+◌, ◌*◌, ◌%◌, ◌^◌, ◌<◌, Bool, true, false, cond, not, ◌&&◌, ◌||◌, eqb, ltb, List, [], ◌∷◌, length, get_or, Some, None, Option, sym, refl, ap, ◌∙◌, subst, add-zero, add_comm, one-mul, add-one, arith}
-use mathlib.Core.Bool.{or_true, or_false}
+use mathlib.Core.Bool.{or-true, or-false}
 use native.Mathlib.Nat.{pow-succ'}
 use lib.Bits.{bit_or}
 use Rattle.std.proofs.lemmas.Nat.{one_shl, or_comm, or_shifted}
@@ -109,8 +109,8 @@ playing Settled turn = refl
 
 module _ (m : Meaning) (hand : List Bool) (card : ℕ) where
   served : (led : Card) (b : Bool) → (eqb (m.class (card_at card)) (m.class led) || not b) ≡ is_of_asked m (cond b (Some (m.class led)) None) card
-  served led true = or_false (eqb (m.class (card_at card)) (m.class led))
-  served led false = or_true (eqb (m.class (card_at card)) (m.class led))
+  served led true = or-false (eqb (m.class (card_at card)) (m.class led))
+  served led false = or-true (eqb (m.class (card_at card)) (m.class led))
 
   follows_is : (trick : Trick) → follows m hand trick card ≡ is_of_asked m (class_asked m hand trick) card
   follows_is Empty = refl

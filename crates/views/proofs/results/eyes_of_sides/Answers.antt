@@ -6,13 +6,13 @@ use Rattle.views.proofs.results.eyes_of_sides.Goals as goal
 pub loop-number-init : goal.loop-number-init
 loop-number-init c = (eyes_none is_declarers c.args.piles.now, eyes_none is_defenders c.args.piles.now)
 
-pub overflow-add-declarer : goal.overflow-add-declarer
-overflow-add-declarer c =
+pub overflow_add-declarer : goal.overflow_add-declarer
+overflow_add-declarer c =
     let more = eyes_more is_declarers c.args.piles.now c.loop-number.number c.card_at-card.result _ c.is_declarers.result c.eyes_if-declarer.result c.told-piles c.loop-number-test.true c.card_at-card.ensures c.is_declarers.ensures c.eyes_if-declarer.ensures in
     omega (arith, more, c.loop-number.invariant.0, eyes_most is_declarers c.args.piles.now (c.loop-number.number + 1))
 
-pub overflow-add-defenders : goal.overflow-add-defenders
-overflow-add-defenders c =
+pub overflow_add-defenders : goal.overflow_add-defenders
+overflow_add-defenders c =
     let more = eyes_more is_defenders c.args.piles.now c.loop-number.number c.card_at-card.result _ c.is_defenders.result c.eyes_if-defenders.result c.told-piles c.loop-number-test.true c.card_at-card.ensures c.is_defenders.ensures c.eyes_if-defenders.ensures in
     omega (arith, more, c.loop-number.invariant.1, eyes_most is_defenders c.args.piles.now (c.loop-number.number + 1))
 

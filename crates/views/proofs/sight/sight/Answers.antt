@@ -3,8 +3,8 @@ use Rattle.cards.specs.Seats.{seat_at}
 use Rattle.views.proofs.Parting.{seen}
 use Rattle.views.proofs.sight.sight.Goals as goal
 
-pub returns-in-err-seat : goal.returns-in-err-seat
-returns-in-err-seat c = record { answer = search rules; buffer = search rules }
+pub returns-in_err-seat : goal.returns-in_err-seat
+returns-in_err-seat c = record { answer = search rules; buffer = search rules }
 
 pub returns : goal.returns
 returns c =
