@@ -6,11 +6,10 @@ use Rattle.table.proofs.tables.Table.act.Goals as goal
 pub act-requires : goal.act-requires
 act-requires g c = record { few = reached_few c.args.self.now.deal c.args.self.now.reached }
 
-pub invariant-of-self : goal.invariant-of-self
-invariant-of-self g c = (
-  reached_more (g.K.Kind.meaning c.args.kind.now) (Act c.args.seat c.args.call) c.args.self.now.deal _ c.args.self.now.reached c.act.ensures.deal,
-  tt,
-)
+pub invariant_of-self : goal.invariant_of-self
+invariant_of-self g c = record {
+  reached = reached_more (g.K.Kind.meaning c.args.kind.now) (Act c.args.seat c.args.call) c.args.self.now.deal _ c.args.self.now.reached c.act.ensures.deal;
+}
 
 pub returns : goal.returns
 returns g c =

@@ -4,10 +4,10 @@ use Rattle.runs.proofs.Lawfully.{every_run}
 use Rattle.runs.proofs.Reaching.{reached_new}
 use Rattle.table.proofs.tables.Table.set.Goals as goal
 
-pub invariant-of-result : goal.invariant-of-result
-invariant-of-result c =
+pub invariant_of-result : goal.invariant_of-result
+invariant_of-result c =
     let long : length c.args.pack.cards ≡ 32 = search rules in
-    (reached_new c.args.pack.cards c.set.result (long, c.args.pack.once) c.set.ensures, tt)
+    record { reached = reached_new c.args.pack.cards c.set.result (long, c.args.pack.once) c.set.ensures }
 
 pub returns : goal.returns
 returns c =
