@@ -1,6 +1,6 @@
 -- Numbers read one by one into cards, with a note of those seen, for `named_cards`.
 use Rattle.std.proofs.Common.{◌≡◌, ℕ, zero, suc, ◌+◌, ◌<◌, ◌≤◌, Bool, true, false, eqb, List, [], ◌∷◌, map, length, get_or, take, set, replicate, count_by, sym, refl, ap, ◌∙◌, subst, ⊎_elim, arith}
-use Rattle.std.specs.List.{AllByRecursion as All}
+use Rattle.std.specs.List.{AllByRecursion}
 use Rattle.std.proofs.ByRecursion.{All-get_or, All-more}
 use Rattle.std.proofs.lemmas.List.{get_or-set_same, get_or-set_other, get_or_past, get_or-replicate, length-set, map_push, take_more, take_more_set, take_all}
 use Rattle.std.proofs.lemmas.List.Sums.{sum_by-cons, sum_by_more, sum_by-set, sum_by-take-le, count_by-le-length}
@@ -15,7 +15,7 @@ pub record Noted (numbers : List ℕ) (i : ℕ) (cards : List Card) (seen : List
   pub room : length cards ≡ 32
   pub long : length seen ≡ 32
   pub named : map card_number (take i cards) ≡ take i numbers
-  pub low : All (λ n. n < 32) (take i numbers)
+  pub low : AllByRecursion (λ n. n < 32) (take i numbers)
   pub told : (n : ℕ) → times n (take i numbers) ≡ bit (get_or seen n false)
   pub marked : count_by (λ b. b) seen ≡ i
 
@@ -102,7 +102,7 @@ module _ (numbers : List ℕ) (i : ℕ) (cards : List Card) (seen : List Bool) (
   pub noted_pack : IsPack numbers
   noted_pack = (
     long,
-    subst (All (λ n. n < 32)) (take_all i numbers (omega arith)) all.low,
+    subst (AllByRecursion (λ n. n < 32)) (take_all i numbers (omega arith)) all.low,
     (λ n. omega (arith, told_all n, at_most (get_or seen n false))),
   )
 

@@ -3,7 +3,7 @@ use Rattle.std.specs.Prelude.{◌≡◌, ℕ, ◌<◌, ◌≤◌, not, ◌&&◌,
 use Rattle.cards.specs.declared.refusals.Refusal.{Refusal}
 use Rattle.cards.specs.declared.refusals.Refusal.TheVariants.{NoSuchMark}
 use Rattle.cards.specs.Refusals.{topmost}
-use Rattle.std.specs.List.{AllByRecursion as All}
+use Rattle.std.specs.List.{AllByRecursion}
 
 -- How often a number occurs among several.
 abbrev pub times : ℕ → List ℕ → ℕ
@@ -11,7 +11,7 @@ times n numbers = count_by (nat_eq n) numbers
 
 -- 32 different cards, by their numbers.
 abbrev pub IsPack : List ℕ → Type 0
-IsPack numbers = (length numbers ≡ 32) × All (λ n. n < 32) numbers × ((n : ℕ) → times n numbers ≤ 1)
+IsPack numbers = (length numbers ≡ 32) × AllByRecursion (λ n. n < 32) numbers × ((n : ℕ) → times n numbers ≤ 1)
 
 -- A cut at mark k puts the cards from k on before the first k.
 abbrev pub cut_at : {A : Type 0} → ℕ → List A → List A
