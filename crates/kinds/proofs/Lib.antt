@@ -1,2 +1,2 @@
-mod FirstStrength
-mod Unbeaten
+pub mod FirstStrength
+pub mod Unbeaten

@@ -1,4 +1,6 @@
+pub mod GameLaws
 pub mod Games
 pub mod Meanings
+pub mod Orders
 pub mod Strengths
 pub mod Tricks

@@ -1,7 +1,7 @@
 // The games of the order: four suits, grand and null.
 ghost use Rattle.kinds.specs.Games.{suit_meaning, grand_meaning, null_meaning, plain_rank as plain_rank_of, null_rank as null_rank_in};
 ghost use Rattle.std.specs.Prelude.{◌≡◌};
-ghost use Rattle.std.proofs.Common.{rules};
+ghost use Rattle.kinds.specs.GameLaws.{suit_apart, suit_small, grand_apart, grand_small, null_apart, null_small};
 
 use super::kind::Kind;
 use cards::deck::{Card, Place, Suit};
@@ -55,9 +55,9 @@ fn null_rank(place: Place) -> u8
 impl Kind for SuitGame {
     ghost meaning = { λ game. suit_meaning game.trump };
 
-    ghost apart = { Prim.search rules };
+    ghost apart = { λ game. suit_apart game.trump };
 
-    ghost small = { Prim.search rules };
+    ghost small = { λ game. suit_small game.trump };
 
     fn class(&self, card: Card) -> u8 {
         if card.place == Place::Jack || card.suit == self.trump {
@@ -83,9 +83,9 @@ impl Kind for SuitGame {
 impl Kind for Grand {
     ghost meaning = { λ _. grand_meaning };
 
-    ghost apart = { Prim.search rules };
+    ghost apart = { λ _. grand_apart };
 
-    ghost small = { Prim.search rules };
+    ghost small = { λ _. grand_small };
 
     fn class(&self, card: Card) -> u8 {
         if card.place == Place::Jack {
@@ -111,9 +111,9 @@ impl Kind for Grand {
 impl Kind for Null {
     ghost meaning = { λ _. null_meaning };
 
-    ghost apart = { Prim.search rules };
+    ghost apart = { λ _. null_apart };
 
-    ghost small = { Prim.search rules };
+    ghost small = { λ _. null_small };
 
     fn class(&self, card: Card) -> u8 {
         card.suit.number()

@@ -3,7 +3,7 @@ ghost use Rattle.std.specs.Prelude.{◌≡◌, slice_index_or};
 ghost use Rattle.cards.specs.First.{IsFirst};
 ghost use Rattle.kinds.specs.Strengths.{strength as strength_of, is_stronger};
 ghost use Rattle.kinds.specs.Tricks.{beats as beats_of, Different, OnlyUnbeaten};
-ghost use Rattle.std.proofs.Common.{rules};
+ghost use Rattle.kinds.specs.Orders.{stronger_irreflexive, stronger_transitive, stronger_weak};
 
 use super::kind::Kind;
 use super::tricks::force;
@@ -47,11 +47,11 @@ impl Order for ByStrength {
 
     ghost ahead = { λ _ a b. is_stronger a b };
 
-    ghost irreflexive = { Prim.search rules };
+    ghost irreflexive = { λ _. stronger_irreflexive };
 
-    ghost transitive = { Prim.search rules };
+    ghost transitive = { λ _. stronger_transitive };
 
-    ghost weak = { Prim.search rules };
+    ghost weak = { λ _. stronger_weak };
 
     fn ahead(&self, a: &Strength, b: &Strength) -> bool {
         a.is_stronger(*b)

@@ -2,7 +2,7 @@
 ghost use Rattle.std.specs.Prelude.{◌≡◌, slice_index_or};
 ghost use Rattle.cards.specs.First.{IsFirst};
 ghost use Rattle.kinds.specs.Tricks.{force as force_of, beats as beats_of, Different, OnlyUnbeaten};
-ghost use Rattle.std.proofs.Common.{rules};
+ghost use Rattle.kinds.specs.Orders.{beats_irreflexive, beats_transitive, beats_weak};
 
 use super::kind::Kind;
 use cards::deck::Card;
@@ -46,11 +46,11 @@ impl<K: Kind> Order for InTrick<K> {
 
     ghost ahead = { λ trick a b. beats_of (K.Kind.meaning trick.kind) trick.led a b };
 
-    ghost irreflexive = { Prim.search rules };
+    ghost irreflexive = { λ trick. beats_irreflexive (K.Kind.meaning trick.kind) trick.led };
 
-    ghost transitive = { Prim.search rules };
+    ghost transitive = { λ trick. beats_transitive (K.Kind.meaning trick.kind) trick.led };
 
-    ghost weak = { Prim.search rules };
+    ghost weak = { λ trick. beats_weak (K.Kind.meaning trick.kind) trick.led };
 
     fn ahead(&self, a: &Card, b: &Card) -> bool {
         beats(&self.kind, self.led, *a, *b)
