@@ -1,5 +1,5 @@
 -- The laws of the worth, and the worked examples, for `Game::result`.
-use Rattle.std.proofs.Common.{◌≡◌, ℕ, zero, suc, ◌+◌, ◌-◌, ◌*◌, ◌<◌, ◌≤◌, max, true, false, eqb, get_or, ℤ, pos, neg_ℤ, ◌≤ℤ◌, ◌<ℤ◌, refl, mul-le-mul_left, arith}
+use Rattle.std.proofs.Common.{◌≡◌, ℕ, zero, suc, ◌+◌, ◌*◌, ◌<◌, ◌≤◌, max, true, false, eqb, get_or, pos, neg_ℤ, ◌≤ℤ◌, ◌<ℤ◌, refl, mul-le-mul_left, arith}
 use Rattle.std.proofs.lemmas.Int.{ints}
 use Rattle.std.proofs.lemmas.Bool.{and_parts, leb-true, cond-true, cond-false, false≢true, true≢false}
 use Rattle.cards.specs.declared.deck.Suit.{Suit}

@@ -1,8 +1,9 @@
--- Every game counts from −540 to 264, and never 0.
-use Rattle.std.specs.Prelude.{◌≡◌, ℕ, zero, suc, ◌+◌, ◌-◌, ◌*◌, ◌<◌, ◌≤◌, max, Bool, true, false, pos, neg_ℤ, ◌==◌}
+-- A run has at most eleven trumps, and every game counts from −540 to 264, and never 0.
+use Rattle.std.specs.Prelude.{◌≡◌, ℕ, zero, suc, ◌+◌, ◌*◌, ◌<◌, ◌≤◌, max, Bool, true, false, [], length, pos, neg_ℤ, ◌==◌}
 use Rattle.std.proofs.Common.{arith}
 use Rattle.std.proofs.lemmas.Bool.{cond_both}
 use Rattle.std.proofs.lemmas.Bool.Decides.{nat_tests}
+use Rattle.cards.specs.declared.deck.Card.{Card}
 use Rattle.cards.specs.declared.deck.Suit.{Suit}
 use Rattle.cards.specs.declared.deck.Suit.TheVariants.{Diamonds, Hearts, Spades, Clubs}
 use Rattle.cards.specs.Units.{is_game_value}
@@ -11,7 +12,17 @@ use Rattle.worth.specs.declared.levels.Level.{Level}
 use Rattle.worth.specs.declared.levels.Level.TheVariants.{Plain, Schneider, Schwarz, Ouvert}
 use Rattle.worth.specs.BidValues.{is_bid}
 use Rattle.worth.specs.Bases.{null_value_at, suit_base, grand_base}
+use Rattle.worth.specs.Tops.{suit_run, grand_run}
 use Rattle.worth.specs.Worth.{one_if, is_schneider, is_schwarz, steps_at, factor, is_won, times_in, trump_worth, null_value, null_worth}
+
+pub suit_short : (suit : Suit) → length (suit_run suit) ≤ 11
+suit_short suit = omega arith
+
+pub grand_short : length grand_run ≤ 11
+grand_short = omega arith
+
+pub null_short : length {A = Card} [] ≤ 11
+null_short = omega arith
 
 pub bid_range : (value : ℕ) → is_bid value ≡ true → (18 ≤ value) × (value ≤ 264)
 bid_range value is = (grind (arith, nat_tests), grind (arith, nat_tests))

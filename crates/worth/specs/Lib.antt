@@ -1,9 +1,10 @@
 pub mod Announced
 pub mod Bases
 pub mod BidValues
+pub mod Bounds
 pub mod Examples
+pub mod GameLaws
 pub mod Levels
 pub mod Tops
 pub mod Worth
 pub mod WorthLaws
-pub mod Bounds

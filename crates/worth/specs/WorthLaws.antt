@@ -1,5 +1,5 @@
 -- Laws of the worth, in the words of the game.
-use Rattle.std.specs.Prelude.{◌≡◌, ℕ, ◌+◌, ◌*◌, ◌≤◌, Bool, true, false, ℤ, pos, neg_ℤ, ◌≤ℤ◌, ◌<ℤ◌, ◌==◌}
+use Rattle.std.specs.Prelude.{◌≡◌, ℕ, ◌+◌, ◌*◌, ◌≤◌, Bool, true, false, pos, neg_ℤ, ◌≤ℤ◌, ◌<ℤ◌, ◌==◌}
 use Rattle.worth.specs.declared.announced.Game.{Game}
 use Rattle.worth.specs.declared.announced.Game.TheVariants.{Suit, Grand, Null}
 use Rattle.worth.specs.declared.finished.Finished.{Finished}

@@ -3,11 +3,9 @@ ghost use Rattle.std.specs.Prelude.{◌≡◌, ℕ, ◌≤◌, true, MatchOption
 ghost use Rattle.cards.specs.Units.{is_game_value};
 ghost use Rattle.worth.specs.Announced.{game_number, game_meaning, game_run, game_counts};
 ghost use Rattle.worth.specs.Examples.{AllHold, examples as worked_examples};
+ghost use Rattle.worth.specs.GameLaws.{game_apart, game_small, game_short, game_in};
 ghost use Rattle.worth.specs.Tops.{tops_of};
 ghost use Rattle.worth.specs.WorthLaws.{WorthLaws};
-ghost use Rattle.std.proofs.Common.{rules};
-ghost use Rattle.worth.specs.declared.announced.Game.TheVariants.{Suit, Grand, Null};
-ghost use Rattle.worth.specs.Bounds.{suit_in, grand_in, null_in};
 
 use super::finished::Finished;
 use super::rated::RatedKind;
@@ -54,9 +52,9 @@ impl Game {
 impl Kind for Game {
     ghost meaning = { game_meaning };
 
-    ghost apart = { Prim.search rules };
+    ghost apart = { game_apart };
 
-    ghost small = { Prim.search rules };
+    ghost small = { game_small };
 
     fn class(&self, card: Card) -> u8 {
         match self {
@@ -90,13 +88,9 @@ impl RatedKind for Game {
 
     ghost counts = { game_counts };
 
-    ghost short = { Prim.search rules };
+    ghost short = { game_short };
 
-    ghost bounded = { elim [
-      | Suit kind ↦ λ tops game few. suit_in tops game kind.trump few
-      | Grand kind ↦ λ tops game few. grand_in tops game few
-      | Null kind ↦ λ tops game few. null_in game
-    ] };
+    ghost bounded = { game_in };
 
     fn run_length(&self) -> usize {
         match self {

@@ -3,8 +3,7 @@ ghost use Rattle.std.specs.Prelude.{[]};
 ghost use Rattle.worth.specs.Tops.{suit_run, grand_run};
 ghost use Rattle.worth.specs.Bases.{suit_base, grand_base};
 ghost use Rattle.worth.specs.Worth.{trump_worth, null_worth};
-ghost use Rattle.worth.specs.Bounds.{suit_in, grand_in, null_in};
-ghost use Rattle.std.proofs.Common.{rules};
+ghost use Rattle.worth.specs.Bounds.{suit_short, grand_short, null_short, suit_in, grand_in, null_in};
 
 use super::finished::Finished;
 use super::rated::RatedKind;
@@ -20,7 +19,7 @@ impl RatedKind for SuitGame {
 
     ghost counts = { λ game tops finished. trump_worth (suit_base game.trump) tops finished };
 
-    ghost short = { Prim.search rules };
+    ghost short = { λ kind. suit_short kind.trump };
 
     ghost bounded = { λ kind tops game few. suit_in tops game kind.trump few };
 
@@ -58,7 +57,7 @@ impl RatedKind for Grand {
 
     ghost counts = { λ _ tops finished. trump_worth grand_base tops finished };
 
-    ghost short = { Prim.search rules };
+    ghost short = { λ _. grand_short };
 
     ghost bounded = { λ kind tops game few. grand_in tops game few };
 
@@ -92,7 +91,7 @@ impl RatedKind for Null {
 
     ghost counts = { λ _ _ finished. null_worth finished };
 
-    ghost short = { Prim.search rules };
+    ghost short = { λ _. null_short };
 
     ghost bounded = { λ kind tops game few. null_in game };
 
