@@ -2,7 +2,7 @@
 ghost use Rattle.std.specs.Prelude.{◌≡◌, ◌<◌, ◌≤◌, length, MatchOption};
 ghost use Rattle.cards.specs.First.{IsFirst};
 ghost use Rattle.ranking.specs.Standings.{is_ahead, number_ahead, rank_answer, EarliestOfRankOne};
-ghost use Rattle.std.proofs.Common.{rules};
+ghost use Rattle.ranking.specs.Orders.{ahead_irreflexive, ahead_transitive, ahead_weak};
 
 use cards::first::first;
 use cards::order::Order;
@@ -26,11 +26,11 @@ impl Order for ByRating {
 
     ghost ahead = { λ _ a b. is_ahead a b };
 
-    ghost irreflexive = { Prim.search rules };
+    ghost irreflexive = { λ _. ahead_irreflexive };
 
-    ghost transitive = { Prim.search rules };
+    ghost transitive = { λ _. ahead_transitive };
 
-    ghost weak = { Prim.search rules };
+    ghost weak = { λ _. ahead_weak };
 
     fn ahead(&self, a: &Entry, b: &Entry) -> bool {
         if a.rating.0 != b.rating.0 {
