@@ -1,6 +1,6 @@
 -- The board agrees with the plays so far, card by card.
 use Rattle.std.proofs.Common.{◌≡◌, ℕ, suc, ◌+◌, Bool, true, false, cond, not, ◌&&◌, ◌||◌, eqb, List, [], ◌∷◌, ◌++◌, length, count_by, Option, sym, refl, ap, ◌∙◌, subst, arith}
-use Rattle.std.specs.List.{AllByRecursion as All}
+use Rattle.std.specs.List.{AllByRecursion}
 use Rattle.std.proofs.ByRecursion.{All-push}
 use Rattle.std.proofs.lemmas.List.{length_push}
 use Rattle.std.proofs.lemmas.Bool.{or_parts}
@@ -37,7 +37,7 @@ pub record OnBoard (m : Meaning) (d : Option Seat) (b : Board) (ps : List Play')
   pub theirs : b.taken.defenders ≡ count_by (is_against m d) (tricks_of ps)
   pub leader : b.leader ≡ leader_after m Forehand (tricks_of ps)
   pub turns : InTurn m Forehand ps
-  pub takers : Lawful m → All (OneTakes m) (tricks_of ps)
+  pub takers : Lawful m → AllByRecursion (OneTakes m) (tricks_of ps)
 
 pub fresh_board_lem : (m : Meaning) (d : Option Seat) → OnBoard m d fresh_board []
 fresh_board_lem m d = record { lies = refl; last = refl; ours = refl; theirs = refl; leader = refl; turns = tt; takers = λ law. tt }
@@ -90,7 +90,7 @@ module _ (m : Meaning) (d : Option Seat) (c : Common) (s : Seat) (x : Card) (ps 
         theirs = h.theirs ∙ ap (count_by (is_against m d)) (sym ts);
         leader = el ∙ h.leader ∙ ap (leader_after m Forehand) (sym ts);
         turns = turned q e h;
-        takers = λ law. subst (λ (us : List Trick'). All (OneTakes m) us) (sym ts) (h.takers law);
+        takers = λ law. subst (λ (us : List Trick'). AllByRecursion (OneTakes m) us) (sym ts) (h.takers law);
       }
 
   module _ (a b : Card) (e : s ≡ following (following c.board.leader)) where
@@ -129,7 +129,7 @@ module _ (m : Meaning) (d : Option Seat) (c : Common) (s : Seat) (x : Card) (ps 
             leader = taker_is ∙ sym (leader_more m Forehand (tricks_of ps) third) ∙ ap (leader_after m Forehand) (sym ts);
             turns = turned (Two a b) e h;
             takers = λ law.
-                subst (λ (us : List Trick'). All (OneTakes m) us) (sym ts)
+                subst (λ (us : List Trick'). AllByRecursion (OneTakes m) us) (sym ts)
                 (All-push (OneTakes m) (tricks_of ps) third (h.takers law)
                 (one_takes m law c.board.leader (following c.board.leader) s a b x df.0 df.1 df.2));
           }

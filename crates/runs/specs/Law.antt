@@ -1,6 +1,6 @@
 -- The law of runs: what every run from every cut pack keeps, under every kind.
 use Rattle.std.specs.Prelude.{◌≡◌, ℕ, ◌+◌, ◌≤◌, Bool, true, false, List, [], ◌∷◌, ◌++◌, map, length, Some, None, Ok, Option, Result, ◌≢◌, nat_eq}
-use Rattle.std.specs.List.{AllByRecursion as All}
+use Rattle.std.specs.List.{AllByRecursion}
 use Rattle.cards.specs.declared.deck.Card.{Card}
 use Rattle.cards.specs.declared.refusals.Refusal.{Refusal}
 use Rattle.cards.specs.declared.seats.Seat.{Seat}
@@ -50,7 +50,7 @@ pub record Law (m : Meaning) (pack : List Card) (run : List Request) : Type 0 wh
   -- No card is lost: the table agrees with the reckoning, the cards were played in turn, and each full trick went to the one seat whose card neither other beats.
   pub agrees : Agrees m pack (accepted m (start pack) run) (ended m (start pack) run)
   pub turns : InTurn m Forehand (plays_in (accepted m (start pack) run))
-  pub takers : All (OneTakes m) (tricks_in (accepted m (start pack) run))
+  pub takers : AllByRecursion (OneTakes m) (tricks_in (accepted m (start pack) run))
   -- After thirty cards the eyes of both sides make 120.
   pub eyes : length (plays_in (accepted m (start pack) run)) ≡ 30
       → eyes_where is_declarers (pile_in (ended m (start pack) run).piles) + eyes_where is_defenders (pile_in (ended m (start pack) run).piles) ≡ 120
