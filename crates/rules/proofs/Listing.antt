@@ -1,6 +1,6 @@
 -- Cards listed one by one into a fixed number of places, for the copy of the declarer's twelve cards.
 use Rattle.std.proofs.Common.{◌≡◌, ℕ, zero, suc, ◌+◌, ◌<◌, ◌≤◌, Bool, true, false, cond, List, [], ◌∷◌, ◌++◌, map, length, get_or, take, set, replicate, sym, refl, ap, ◌∙◌, add-zero, arith}
-use Rattle.std.proofs.lemmas.List.{append-nil, append_assoc, map-append, map_more, length-append, length-map, length_push, length-take-le, take_all, take-append-le, take-replicate}
+use Rattle.std.proofs.lemmas.List.{append-nil, append_assoc, map-append, map_more, length-map, length_push, length-take-le, take_all, take-append-le, take-replicate}
 use Rattle.cards.specs.declared.deck.Card.{Card}
 use Rattle.cards.specs.declared.seats.Seat.{Seat}
 use Rattle.cards.specs.Deck.{card_at}

@@ -1,10 +1,9 @@
 -- What an acting call is refused for.
-use Rattle.std.specs.Prelude.{ℕ, Bool, true, false, not, ◌&&◌, ◌||◌, List, [], ◌∷◌, Some, None, Option, ◌==◌, nat_le, nat_lt, slice_index_or}
+use Rattle.std.specs.Prelude.{Bool, true, false, not, ◌&&◌, ◌||◌, List, [], ◌∷◌, Some, None, Option, ◌==◌, nat_le, nat_lt, slice_index_or}
 use Rattle.cards.specs.declared.refusals.Refusal.{Refusal}
 use Rattle.cards.specs.declared.refusals.Refusal.TheVariants.{NoSuchSeat, DealIsSettled, NotThisSeatsTurn, NotInThisMoment, NoBidValue, BidTooLow, NoSuchCard, SameCardTwice, CardNotHeld, LedClassHeld, NoSuchGame, LevelNotOpen, NullBelowBid}
 use Rattle.cards.specs.declared.seats.Seat.{Seat}
 use Rattle.cards.specs.Refusals.{topmost}
-use Rattle.cards.specs.Seats.{seat_at}
 use Rattle.kinds.specs.Meanings.{Meaning}
 use Rattle.worth.specs.Bases.{null_value_at}
 use Rattle.worth.specs.BidValues.{is_bid}

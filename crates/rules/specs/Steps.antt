@@ -1,5 +1,5 @@
 -- What an accepted call makes of a deal.
-use Rattle.std.specs.Prelude.{◌≡◌, ℕ, suc, ◌+◌, ◌<◌, Bool, true, false, cond, ◌&&◌, ◌||◌, List, [], ◌∷◌, map, Some, None, Option, ◌==◌, slice_set}
+use Rattle.std.specs.Prelude.{◌≡◌, ℕ, suc, ◌+◌, ◌<◌, Bool, true, cond, ◌&&◌, ◌||◌, List, map, Some, None, Option, ◌==◌, slice_set}
 use Rattle.cards.specs.declared.deck.Card.{Card}
 use Rattle.cards.specs.declared.seats.Seat.{Seat}
 use Rattle.cards.specs.declared.seats.Seat.TheVariants.{Forehand}
@@ -19,7 +19,7 @@ use Rattle.rules.specs.declared.moments.Moment.{Moment}
 use Rattle.rules.specs.declared.moments.Moment.TheVariants.{Putting, Announcing, Playing, Settled}
 use Rattle.rules.specs.Announcing.{game_at, level_at}
 use Rattle.rules.specs.Bidding.{fresh_board, bids_next, hears, declares, passed_in, bidder_passes, hearer_passes}
-use Rattle.rules.specs.Board.{declarer_of, is_declarer, taker_of}
+use Rattle.rules.specs.Board.{is_declarer, taker_of}
 use Rattle.rules.specs.Moments.{is_at}
 use Rattle.rules.specs.Piles.{padded, hand_and_skat}
 use Rattle.rules.specs.Refusing.{is_accepted}

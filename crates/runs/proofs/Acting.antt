@@ -1,5 +1,5 @@
 -- One seat can act, and the eyes make 120.
-use Rattle.std.proofs.Common.{◌≡◌, ℕ, zero, suc, ◌+◌, ◌<◌, ◌≤◌, Bool, true, false, cond, not, ◌&&◌, ◌||◌, eqb, ltb, leb, ◌⊎◌, List, [], ◌∷◌, ◌++◌, map, length, get_or, set, Some, None, sum_by, Option, sym, refl, ap, ◌∙◌, subst, inl, inr, add-zero, arith}
+use Rattle.std.proofs.Common.{◌≡◌, ℕ, zero, suc, ◌+◌, ◌<◌, Bool, true, false, cond, not, eqb, leb, ◌⊎◌, List, [], ◌∷◌, length, get_or, set, Some, None, sum_by, Option, sym, refl, ap, ◌∙◌, subst, inl, inr, add-zero, arith}
 use Rattle.std.proofs.lemmas.List.{get_or-set_other, get_or-set_same, length-map}
 use Rattle.std.proofs.lemmas.List.Sums.{sum_by-cons}
 use Rattle.std.proofs.lemmas.Bool.{ne_eqb, le-ltb, both_ways, and_from, not_from_true, or_cases, or_from, or_left, or_right}
@@ -8,10 +8,10 @@ use Rattle.cards.specs.declared.seats.Seat.{Seat}
 use Rattle.cards.specs.declared.seats.Seat.TheVariants.{Forehand, Middlehand, Rearhand}
 use Rattle.cards.specs.Deck.{card_number, card_at, eyes_of}
 use Rattle.cards.specs.Refusals.{topmost}
-use Rattle.cards.specs.Seats.{seat_at, following}
+use Rattle.cards.specs.Seats.{seat_at}
 use Rattle.kinds.specs.Meanings.{Meaning}
 use Rattle.rules.specs.declared.calls.Call.{Call}
-use Rattle.rules.specs.declared.calls.Call.TheVariants.{Bid, Hold, Pass, Take, Put, Announce, Play}
+use Rattle.rules.specs.declared.calls.Call.TheVariants.{Pass, Take, Put, Announce, Play}
 use Rattle.rules.specs.declared.deals.Deal.{Deal}
 use Rattle.rules.specs.declared.deals.Pile.{Pile}
 use Rattle.rules.specs.declared.deals.Pile.TheVariants.{InHand, InSkat, InTrick, WithDeclarer, WithDefenders}

@@ -1,5 +1,5 @@
 -- From what is told of a run to what the law says of it.
-use Rattle.std.proofs.Common.{◌≡◌, ℕ, ◌+◌, ◌*◌, ◌<◌, ◌≤◌, Bool, true, false, cond, not, ◌&&◌, ◌||◌, eqb, leb, ◌⊎◌, List, [], ◌∷◌, ◌++◌, map, length, Some, None, Option, sym, refl, ap, ◌∙◌, subst, inl, inr, ⊎_elim, arith}
+use Rattle.std.proofs.Common.{◌≡◌, ℕ, ◌+◌, Bool, true, false, ◌&&◌, ◌||◌, leb, List, [], map, length, sym, refl, ap, ◌∙◌, subst, inl, inr, arith}
 use Rattle.std.proofs.lemmas.Bool.{both_ways}
 use Rattle.cards.specs.declared.deck.Card.{Card}
 use Rattle.cards.specs.declared.seats.Seat.{Seat}
@@ -18,12 +18,12 @@ use Rattle.rules.specs.Moments.{moment_number, is_at}
 use Rattle.rules.specs.Piles.{pile_in, is_declarers, is_defenders, eyes_where}
 use Rattle.rules.specs.Results.{is_settled}
 use Rattle.runs.specs.Law.{Agrees}
-use Rattle.runs.specs.Reckoning.{Made, Play', is_any, is_take, announced_in, declarer_in, plays_in, tricks_of, open_of, is_by, is_passed_in, is_settled_in, leader_in}
+use Rattle.runs.specs.Reckoning.{Made, Play', is_any, is_take, announced_in, declarer_in, plays_in, tricks_of, open_of, is_by, is_settled_in, leader_in}
 use Rattle.runs.proofs.Acting.{eyes_make}
-use Rattle.runs.proofs.Boards.{prefix, is_ended, OnBoard}
+use Rattle.runs.proofs.Boards.{prefix, is_ended}
 use Rattle.runs.proofs.Grouping.{length_groups, both_sides}
 use Rattle.runs.proofs.Sound.{phase_at, turn_of}
-use Rattle.runs.proofs.Stages.{StageAt, Passed, Paired, Only, Declared, declared}
+use Rattle.runs.proofs.Stages.{StageAt, Passed, Paired, Declared, declared}
 use Rattle.runs.proofs.Tallies.{Tally, tally}
 use Rattle.runs.proofs.Told.{Told, declarer_with, early_plays, at_most_two}
 

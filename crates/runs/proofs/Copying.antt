@@ -1,5 +1,5 @@
 -- The twelve cards that are copied at the announcement are the declarer's ten dealt cards and the skat, and stay so.
-use Rattle.std.proofs.Common.{◌≡◌, ℕ, zero, suc, ◌+◌, Bool, true, false, cond, ◌||◌, eqb, leb, List, [], ◌∷◌, ◌++◌, map, length, get_or, set, replicate, Some, None, Option, sym, refl, ap, ◌∙◌, subst, arith}
+use Rattle.std.proofs.Common.{◌≡◌, ℕ, zero, suc, ◌+◌, Bool, true, false, cond, ◌||◌, eqb, leb, List, [], ◌∷◌, map, length, get_or, set, replicate, Some, None, Option, sym, refl, ap, ◌∙◌, subst, arith}
 use Rattle.std.proofs.lemmas.List.{length-map, take_at}
 use Rattle.std.proofs.lemmas.Bool.{both_ways}
 use Rattle.cards.specs.declared.deck.Card.{Card}
@@ -25,7 +25,7 @@ use Rattle.rules.specs.Dealing.{IsCutPack, start}
 use Rattle.rules.specs.Moments.{moment_number, is_at}
 use Rattle.rules.specs.Piles.{is_held, is_in_skat, is_held_or_in_skat, holding, skat_of, marked, marked_from, padded, hand_and_skat}
 use Rattle.rules.specs.Refusing.{is_accepted}
-use Rattle.rules.specs.Steps.{next, moved, copied, step, lifted, plays, settles, twelve_of}
+use Rattle.rules.specs.Steps.{next, moved, step, lifted, plays, settles, twelve_of}
 use Rattle.runs.specs.declared.requests.Request.{Request}
 use Rattle.runs.specs.Law.{twelve_in}
 use Rattle.runs.specs.Runs.{ended}

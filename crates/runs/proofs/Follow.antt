@@ -1,9 +1,8 @@
 -- A seat's answers are those of a machine that is fed what is kept of the run, and the skat if the seat takes it.
-use Rattle.std.proofs.Common.{◌≡◌, ℕ, suc, ◌+◌, Bool, true, false, cond, not, ◌&&◌, ◌||◌, eqb, leb, List, [], ◌∷◌, ◌++◌, map, Some, None, Option, sym, refl, ap, ◌∙◌, subst}
+use Rattle.std.proofs.Common.{◌≡◌, ℕ, suc, ◌+◌, Bool, true, false, cond, ◌&&◌, ◌||◌, leb, List, [], ◌∷◌, ◌++◌, Some, None, Option, sym, refl, ap, ◌∙◌}
 use Rattle.std.proofs.lemmas.Bool.{both_ways, or_parts}
 use Rattle.cards.specs.declared.deck.Card.{Card}
 use Rattle.cards.specs.declared.seats.Seat.{Seat}
-use Rattle.cards.specs.declared.seats.Seat.TheVariants.{Forehand}
 use Rattle.cards.specs.Refusals.{answered}
 use Rattle.cards.specs.Seats.{seat_at}
 use Rattle.cards.specs.Deck.{card_at}
@@ -18,7 +17,6 @@ use Rattle.rules.specs.declared.deals.Trick.TheVariants.{Empty, One, Two, Full}
 use Rattle.rules.specs.declared.moments.Moment.{Moment}
 use Rattle.rules.specs.declared.moments.Moment.TheVariants.{Bidding, Hearing, Alone, Deciding, Putting, Announcing, Playing, Settled}
 use Rattle.rules.specs.Announcing.{level_at, is_ouvert}
-use Rattle.rules.specs.Bidding.{declares, bids_next}
 use Rattle.rules.specs.Board.{is_the, is_declarer, taker_of}
 use Rattle.rules.specs.Dealing.{start}
 use Rattle.rules.specs.Moments.{moment_number, is_at}
@@ -29,13 +27,13 @@ use Rattle.rules.specs.Results.{is_settled}
 use Rattle.rules.specs.Sight.{bytes_of, sight_refusal, sight_of, seen_by}
 use Rattle.rules.specs.Steps.{next, moved, step, plays, settles}
 use Rattle.runs.specs.declared.requests.Answer.{Answer}
-use Rattle.runs.specs.declared.requests.Answer.TheVariants.{Acted, Saw, May, Counted}
+use Rattle.runs.specs.declared.requests.Answer.TheVariants.{Acted, Saw, May}
 use Rattle.runs.specs.declared.requests.Request.{Request}
 use Rattle.runs.specs.declared.requests.Request.TheVariants.{Act, Sight, Permitted, Result}
 use Rattle.runs.specs.Fairness.{Kept, own, others, opens, puts, kept_call, kept_other, kept_others, kept, is_own, got, took, is_take_by, Alike}
 use Rattle.runs.specs.Runs.{after, after_call, answer, accepted_by, accepted_in, accepted}
-use Rattle.runs.proofs.Facts.{same_refl, same_is, the_is, accepted_fine, hold_row}
-use Rattle.runs.proofs.Views.{View, view, view≡, move_by, own_move, own_call, other_move, Untouched, own_moves, other_moves}
+use Rattle.runs.proofs.Facts.{same_refl, the_is, accepted_fine, hold_row}
+use Rattle.runs.proofs.Views.{View, view, view≡, move_by, own_move, own_call, Untouched, own_moves, other_moves}
 
 abbrev halted : View → Bool
 halted w = is_at 7 w.common.moment

@@ -9,7 +9,7 @@ use Rattle.rules.specs.Refusing.{is_accepted}
 use Rattle.rules.specs.Steps.{step}
 use Rattle.runs.specs.declared.requests.Request.{Request}
 use Rattle.runs.specs.declared.requests.Request.TheVariants.{Act, Sight, Permitted, Result}
-use Rattle.runs.specs.Runs.{after, after_call, ended, accepted, accepted_by}
+use Rattle.runs.specs.Runs.{after_call, ended, accepted, accepted_by}
 
 module _ (m : Meaning) (P : List (Seat × Call) → Deal → Type 0)
     (more : (calls : List (Seat × Call)) (t : Deal) (s : Seat) (call : Call)

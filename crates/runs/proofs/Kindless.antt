@@ -1,5 +1,5 @@
 -- Before the announcement no call reads the kind, so a run under one kind from then on is a run under that kind.
-use Rattle.std.proofs.Common.{◌≡◌, ℕ, Bool, true, false, cond, leb, List, [], ◌∷◌, Some, None, Option, sym, refl, ap, ◌∙◌, arith}
+use Rattle.std.proofs.Common.{◌≡◌, ℕ, Bool, true, false, cond, leb, List, [], ◌∷◌, Some, None, Option, sym, refl, ap, ◌∙◌}
 use Rattle.std.proofs.lemmas.Bool.{both_ways}
 use Rattle.cards.specs.declared.seats.Seat.{Seat}
 use Rattle.cards.specs.Seats.{seat_at}

@@ -1,7 +1,6 @@
 -- The law of every run, and a run with one request more.
-use Rattle.std.proofs.Common.{◌≡◌, ℕ, Bool, true, false, cond, eqb, List, [], ◌∷◌, ◌++◌, Ok, Option, Result, sym, refl, ap, ◌∙◌, subst}
+use Rattle.std.proofs.Common.{◌≡◌, ℕ, true, eqb, List, [], ◌∷◌, ◌++◌, Ok, Option, Result, sym, refl, ap, ◌∙◌, subst}
 use Rattle.std.proofs.lemmas.Bool.{cond-true}
-use Rattle.cards.specs.declared.deck.Card.{Card}
 use Rattle.cards.specs.declared.refusals.Refusal.{Refusal}
 use Rattle.cards.specs.declared.units.GamePoints.{GamePoints}
 use Rattle.kinds.specs.Meanings.{Meaning}
@@ -10,7 +9,6 @@ use Rattle.rules.specs.declared.deals.Deal.{Deal}
 use Rattle.rules.specs.Dealing.{start}
 use Rattle.rules.specs.Piles.{is_declarers, is_defenders, eyes_where}
 use Rattle.rules.specs.Results.{Worth, bid_at, points_of, result_of}
-use Rattle.runs.specs.declared.requests.Answer.{Answer}
 use Rattle.runs.specs.declared.requests.Request.{Request}
 use Rattle.runs.specs.Law.{EveryRun, EveryResult, Continues, Counts, Lawful, twelve_in}
 use Rattle.runs.specs.Reach.{requests_of}

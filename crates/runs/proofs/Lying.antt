@@ -1,6 +1,6 @@
 -- Each card lies where it is reckoned to lie, call by call.
-use Rattle.std.proofs.Common.{◌≡◌, ℕ, zero, suc, ◌<◌, Bool, true, false, cond, not, ◌&&◌, ◌||◌, eqb, List, [], ◌∷◌, ◌++◌, map, length, get_or, set, Some, None, Option, sym, refl, ap, ◌∙◌, subst, ⊎_elim, arith}
-use Rattle.std.proofs.lemmas.List.{get_or-set_other, get_or-set_same, get_or-map}
+use Rattle.std.proofs.Common.{◌≡◌, ℕ, zero, suc, ◌<◌, Bool, true, false, cond, ◌||◌, eqb, List, [], ◌∷◌, ◌++◌, map, length, get_or, set, Some, None, Option, sym, refl, ap, ◌∙◌, ⊎_elim, arith}
+use Rattle.std.proofs.lemmas.List.{get_or-set_other, get_or-set_same}
 use Rattle.std.proofs.lemmas.Bool.{eqb-true, eqb-false, eq-eqb, both_ways, or_cases, or_parts, or_right, or_from, cond-true, cond-false}
 use Rattle.cards.specs.declared.dealing.Dealt.{Dealt}
 use Rattle.cards.specs.declared.dealing.Dealt.TheVariants.{Hand, Skat}
@@ -8,8 +8,7 @@ use Rattle.cards.specs.declared.deck.Card.{Card}
 use Rattle.cards.specs.declared.seats.Seat.{Seat}
 use Rattle.cards.specs.Deck.{card_number, card_at}
 use Rattle.cards.specs.Seats.{following}
-use Rattle.cards.specs.Dealing.{receiver}
-use Rattle.cards.proofs.Cardinals.{card_below, number_at}
+use Rattle.cards.proofs.Cardinals.{number_at}
 use Rattle.kinds.specs.Meanings.{Meaning}
 use Rattle.rules.specs.declared.deals.Common.{Common}
 use Rattle.rules.specs.declared.deals.Pile.{Pile}
@@ -17,11 +16,11 @@ use Rattle.rules.specs.declared.deals.Pile.TheVariants.{InHand, InSkat, InTrick,
 use Rattle.rules.specs.declared.deals.Trick.{Trick}
 use Rattle.rules.specs.declared.deals.Trick.TheVariants.{Empty, One, Two, Full}
 use Rattle.rules.specs.Board.{declarer_of, is_declarer, taker_of}
-use Rattle.rules.specs.Dealing.{position_of, pile_for, dealt_to}
+use Rattle.rules.specs.Dealing.{pile_for}
 use Rattle.rules.specs.Piles.{is_held, holding, pile_in}
 use Rattle.rules.specs.Steps.{lifted, gathered, laid, plays}
-use Rattle.runs.specs.Reckoning.{Made, Play', Trick', tricks_of, open_of, is_by, is_any, is_put, is_card, is_in, side_of, in_tricks, taken_up}
-use Rattle.runs.proofs.Boards.{prefix, re, Differ, OnBoard, side_is}
+use Rattle.runs.specs.Reckoning.{Play', Trick', tricks_of, open_of, is_by, is_any, is_card, is_in, side_of, in_tricks, taken_up}
+use Rattle.runs.proofs.Boards.{prefix, re, Differ, side_is}
 use Rattle.runs.proofs.Counts.{is_open}
 use Rattle.runs.proofs.Grouping.{lead, follow, fill}
 use Rattle.runs.proofs.Sound.{turn_of}

@@ -1,5 +1,5 @@
 -- What stays true of a deal over every accepted call: how many cards each hand has, and whose turn it is.
-use Rattle.std.proofs.Common.{◌≡◌, ℕ, zero, suc, ◌+◌, ◌<◌, ◌≤◌, Bool, true, false, cond, not, ◌&&◌, ◌||◌, eqb, ltb, leb, List, [], ◌∷◌, ◌++◌, map, length, get_or, set, sym, refl, ap, ◌∙◌, subst, arith}
+use Rattle.std.proofs.Common.{◌≡◌, ℕ, zero, suc, ◌+◌, ◌<◌, Bool, true, false, cond, not, ◌||◌, eqb, ltb, leb, List, [], ◌∷◌, map, length, get_or, set, sym, refl, ap, ◌∙◌, subst, arith}
 use Rattle.std.proofs.lemmas.List.{map-set, length-set, length-map, get_or-set_other}
 use Rattle.std.proofs.lemmas.Bool.{eqb-false, ltb-false, both_ways, not-false, or_parts}
 use Rattle.cards.specs.declared.deck.Card.{Card}
@@ -25,13 +25,13 @@ use Rattle.rules.specs.Bidding.{fresh_board, bids_next, declares, leaves_forehan
 use Rattle.rules.specs.Board.{is_declarer, taker_of}
 use Rattle.rules.specs.Dealing.{IsCutPack, start}
 use Rattle.rules.specs.Moments.{moment_number, is_at}
-use Rattle.rules.specs.Piles.{is_seat, is_held, is_in_skat, holding, skat_of}
+use Rattle.rules.specs.Piles.{is_seat, is_held, holding}
 use Rattle.rules.specs.Refusing.{is_accepted}
 use Rattle.rules.specs.Steps.{next, moved, step, lifted, gathered, laid, plays, settles, fills}
 use Rattle.runs.specs.declared.requests.Request.{Request}
 use Rattle.runs.specs.Runs.{ended}
 use Rattle.runs.proofs.Counts.{bit, ones, is_open, lying, Even, ones_set_false, ones_set_true, ones_lifted, none_gathered, start_even, start_wide}
-use Rattle.runs.proofs.Facts.{same_sym, same_refl, same_is, peel, accepted_fine, is_moment, hold_row, map_map}
+use Rattle.runs.proofs.Facts.{same_sym, same_is, peel, accepted_fine, is_moment, hold_row, map_map}
 use Rattle.runs.proofs.Induct.{by_calls}
 use Rattle.runs.proofs.Views.{held_gathered, held_lifted, put_fine}
 

@@ -1,7 +1,7 @@
 -- The table agrees with what the accepted calls say, call by call.
-use Rattle.std.proofs.Common.{◌≡◌, ℕ, zero, suc, ◌+◌, ◌*◌, ◌<◌, ◌≤◌, Bool, true, false, cond, not, ◌&&◌, ◌||◌, eqb, leb, ◌⊎◌, List, [], ◌∷◌, ◌++◌, map, length, get_or, set, Some, None, Option, sym, refl, ap, ◌∙◌, subst, inl, inr, ⊎_elim, append-nil, arith}
+use Rattle.std.proofs.Common.{◌≡◌, ℕ, zero, suc, ◌≤◌, Bool, true, false, cond, not, ◌||◌, eqb, leb, List, [], ◌∷◌, ◌++◌, length, get_or, set, Some, None, Option, sym, refl, ap, ◌∙◌, subst, inr, ⊎_elim, append-nil, arith}
 use Rattle.std.proofs.lemmas.List.{get_or-map, get_or-set_other, length_push}
-use Rattle.std.proofs.lemmas.Bool.{leb-true, le-leb, eqb-true, eqb-false, both_ways, not-false, or_parts, or_cases, cond-true, cond-false}
+use Rattle.std.proofs.lemmas.Bool.{leb-true, le-leb, eqb-true, eqb-false, both_ways, not-false, or_cases}
 use Rattle.cards.specs.declared.deck.Card.{Card}
 use Rattle.cards.specs.declared.seats.Seat.{Seat}
 use Rattle.cards.specs.declared.seats.Seat.TheVariants.{Forehand}
@@ -18,32 +18,32 @@ use Rattle.rules.specs.declared.deals.Deal.{Deal}
 use Rattle.rules.specs.declared.deals.Pair.{Pair}
 use Rattle.rules.specs.declared.deals.Pair.TheVariants.{MiddlehandToForehand, RearhandToForehand, RearhandToMiddlehand}
 use Rattle.rules.specs.declared.deals.Pile.{Pile}
-use Rattle.rules.specs.declared.deals.Pile.TheVariants.{InHand, InSkat, InTrick, WithDeclarer, WithDefenders}
+use Rattle.rules.specs.declared.deals.Pile.TheVariants.{InSkat}
 use Rattle.rules.specs.declared.deals.Trick.{Trick}
 use Rattle.rules.specs.declared.deals.Trick.TheVariants.{Empty, One, Two, Full}
 use Rattle.rules.specs.declared.moments.Moment.{Moment}
 use Rattle.rules.specs.declared.moments.Moment.TheVariants.{Bidding, Hearing, Alone, Deciding, Putting, Announcing, Playing, Settled}
 use Rattle.rules.specs.Bidding.{fresh_board, declares, bids_next, leaves_forehand, passed_in, bidder_passes, hearer_passes}
-use Rattle.rules.specs.Board.{declarer_of, is_declarer, taker_of}
+use Rattle.rules.specs.Board.{declarer_of}
 use Rattle.rules.specs.Dealing.{IsCutPack, position_of, dealt_to, start}
 use Rattle.rules.specs.Moments.{moment_number, is_at, in_row}
-use Rattle.rules.specs.Piles.{holding, pile_in}
+use Rattle.rules.specs.Piles.{pile_in}
 use Rattle.rules.specs.Refusing.{is_accepted}
-use Rattle.rules.specs.Steps.{next, moved, step, lifted, plays, laid, settles}
+use Rattle.rules.specs.Steps.{next, moved, step, lifted, plays}
 use Rattle.worth.specs.BidValues.{is_bid}
 use Rattle.runs.specs.declared.requests.Request.{Request}
 use Rattle.runs.specs.Runs.{accepted, ended}
-use Rattle.runs.specs.Reckoning.{Made, Play', Trick', announced_in, declarer_in, is_any, is_take, is_put, play_of, plays_in, tricks_of, open_of, is_by, is_card, is_in, taken_up, unplayed, pile_of, contract_with, contract_for}
+use Rattle.runs.specs.Reckoning.{Made, Play', announced_in, declarer_in, is_any, is_take, is_put, play_of, plays_in, tricks_of, open_of, is_by, is_card, is_in, taken_up, unplayed, pile_of, contract_with, contract_for}
 use Rattle.runs.proofs.Boards.{prefix, Differ, OnBoard, fresh_board_lem, re, is_ended, board_step, settles_is}
-use Rattle.runs.proofs.Counts.{is_open, start_pile}
+use Rattle.runs.proofs.Counts.{start_pile}
 use Rattle.runs.proofs.Facts.{accepted_fine, is_moment, hold_row, peel}
 use Rattle.runs.proofs.Grouping.{lead, follow, fill, length_groups, both_sides}
 use Rattle.runs.proofs.Induct.{by_calls}
 use Rattle.runs.proofs.Lying.{reckon, Ready, Distinct, distinct_step, lies_step, differs, dealt_closed, taken_closed, untaken_up, taken_up_lem, cond_closed}
 use Rattle.runs.proofs.Sound.{Sound, phase_at, turn_of, play_fine, step_sound, start_sound, plays_late, fresh_cond, bidder_fresh, hearer_fresh}
 use Rattle.runs.proofs.Stages.{StageAt, Known, Declared, declared, is_play, known_step}
-use Rattle.runs.proofs.Tallies.{Tally, tally, added, bid_of, declarer_of_tally, contract_of, tally_more, plays_more, put_more, or_false}
-use Rattle.runs.proofs.Views.{plays_contract, put_fine}
+use Rattle.runs.proofs.Tallies.{Tally, tally, declarer_of_tally, tally_more, plays_more, put_more, or_false}
+use Rattle.runs.proofs.Views.{plays_contract}
 
 pub record Told (m : Meaning) (pack : List Card) (calls : List Made) (t : Deal) : Type 0 where
   pub sound : Sound t

@@ -8,8 +8,6 @@ use Rattle.cards.specs.declared.seats.Seat.TheVariants.{Forehand}
 use Rattle.cards.specs.declared.units.GamePoints.{GamePoints}
 use Rattle.kinds.specs.Meanings.{Meaning}
 use Rattle.worth.specs.BidValues.{is_bid}
-use Rattle.rules.specs.declared.calls.Call.{Call}
-use Rattle.rules.specs.declared.deals.Contract.{Contract}
 use Rattle.rules.specs.declared.deals.Deal.{Deal}
 use Rattle.rules.specs.declared.deals.Pile.{Pile}
 use Rattle.runs.specs.declared.requests.Request.{Request}

@@ -1,5 +1,5 @@
 -- Before settlement one seat can act, and no other.
-use Rattle.std.specs.Prelude.{◌≡◌, ℕ, true, Some, None}
+use Rattle.std.specs.Prelude.{◌≡◌, ℕ, Some, None}
 use Rattle.cards.specs.declared.seats.Seat.{Seat}
 use Rattle.cards.specs.Seats.{seat_at}
 use Rattle.kinds.specs.Meanings.{Meaning}

@@ -1,5 +1,5 @@
 -- Runs: any list of the ten calls, by any numbers, on one table newly set.
-use Rattle.std.specs.Prelude.{Bool, cond, List, [], ◌∷◌, Some, None, Option}
+use Rattle.std.specs.Prelude.{cond, List, [], ◌∷◌, Some, None, Option}
 use Rattle.cards.specs.declared.seats.Seat.{Seat}
 use Rattle.cards.specs.Refusals.{answered}
 use Rattle.cards.specs.Seats.{seat_at}

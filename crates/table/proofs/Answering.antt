@@ -1,11 +1,10 @@
 -- One request more of a run, answered in its line.
-use Rattle.std.proofs.Common.{◌≡◌, ℕ, ◌+◌, ◌<◌, ◌≤◌, List, [], ◌∷◌, ◌++◌, map, length, get_or, take, set, Option, sym, refl, ap, ◌∙◌, arith}
+use Rattle.std.proofs.Common.{◌≡◌, ℕ, ◌+◌, ◌<◌, ◌≤◌, List, [], ◌∷◌, ◌++◌, length, get_or, take, set, Option, sym, refl, ap, ◌∙◌, arith}
 use Rattle.std.proofs.lemmas.List.{take_more, take_more_set, take_all, map_push, map-set, get_or-map, set-get_or, length-map}
 use Rattle.kinds.specs.Meanings.{Meaning}
 use Rattle.rules.specs.declared.deals.Deal.{Deal}
 use Rattle.rules.specs.Results.{Worth}
 use Rattle.runs.specs.declared.requests.Answer.{Answer}
-use Rattle.runs.specs.declared.requests.Request.{Request}
 use Rattle.runs.specs.Runs.{after, answer, answers, ended}
 use Rattle.runs.proofs.Lawfully.{ended_more, answers_more}
 use Rattle.table.specs.declared.asked.Asked.{Asked}

@@ -1,5 +1,5 @@
 -- The requests of a run and their answers.
-use Rattle.std.specs.Prelude.{List, [], ◌∷◌, map, Option}
+use Rattle.std.specs.Prelude.{List, map, Option}
 use Rattle.runs.specs.declared.requests.Answer.{Answer}
 use Rattle.runs.specs.declared.requests.Request.{Request}
 use Rattle.table.specs.declared.asked.Asked.{Asked}

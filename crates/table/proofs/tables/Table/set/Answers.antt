@@ -1,5 +1,4 @@
 use Rattle.std.proofs.Common.{◌≡◌, [], length, rules}
-use Rattle.rules.specs.Dealing.{IsCutPack}
 use Rattle.runs.proofs.Lawfully.{every_run}
 use Rattle.runs.proofs.Reaching.{reached_new}
 use Rattle.table.proofs.tables.Table.set.Goals as goal
