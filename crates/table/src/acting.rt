@@ -25,9 +25,8 @@ impl Table {
         ensures whole { IsCutPack pack.cards }
         ensures law { (m : Meaning) → Lawful m → Law m pack.cards [] }
     {
-        Table {
-            deal: Deal::set(pack),
-        }
+        let deal = Deal::set(pack);
+        Table { deal }
     }
 
     // Answers an acting call.

@@ -6,13 +6,13 @@ use Rattle.table.proofs.tables.Table.set.Goals as goal
 pub invariant_of-result : goal.invariant_of-result
 invariant_of-result c =
     let long : length c.args.pack.cards ≡ 32 = search rules in
-    record { reached = reached_new c.args.pack.cards c.set.result (long, c.args.pack.once) c.set.ensures }
+    record { reached = reached_new c.args.pack.cards c.set-deal.result (long, c.args.pack.once) c.set-deal.ensures }
 
 pub returns : goal.returns
 returns c =
     let long : length c.args.pack.cards ≡ 32 = search rules in
     record {
-      deal = c.set.ensures;
+      deal = c.set-deal.ensures;
       whole = (long, c.args.pack.once);
       law = λ m law. every_run m c.args.pack.cards [] law (long, c.args.pack.once);
     }
