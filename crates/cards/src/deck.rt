@@ -1,7 +1,9 @@
 // The 32 cards: a suit and a place each.
-ghost use Rattle.std.specs.Prelude.{◌≡◌, ◌/◌, ◌%◌, ◌<◌, ◌≤◌, MatchOption};
+ghost use Rattle.std.specs.Prelude.{◌≡◌, ◌/◌, ◌%◌, ◌<◌, ◌≤◌, MatchOption, MatchResult};
+ghost use Rattle.cards.specs.declared.refusals.Refusal.TheVariants.{NoSuchCard};
 ghost use Rattle.cards.specs.Deck.{suit_number, place_number, card_number, eyes_of};
 
+use super::refusals::Refusal;
 use super::units::Eyes;
 
 // The suits from the lowest to the highest.
@@ -115,5 +117,88 @@ impl Card {
             Place::Ace => 11,
             Place::Jack => 2,
         })
+    }
+}
+
+impl From<Suit> for u8 {
+    ghost from_gives = { λ suit number. number ≡ suit_number suit };
+
+    // The suit's number, from 0 for diamonds.
+    fn from(suit: Suit) -> u8 {
+        match suit {
+            Suit::Diamonds => 0,
+            Suit::Hearts => 1,
+            Suit::Spades => 2,
+            Suit::Clubs => 3,
+        }
+    }
+}
+
+impl TryFrom<u8> for Suit {
+    type Error = Refusal;
+
+    ghost try_from_gives = { λ number result. MatchResult result (λ suit. suit_number suit ≡ number) (λ refusal. (refusal ≡ NoSuchCard) × (4 ≤ number)) };
+
+    // The suit of this number, if there is one.
+    fn try_from(number: u8) -> Result<Suit, Refusal> {
+        match number {
+            0 => Ok(Suit::Diamonds),
+            1 => Ok(Suit::Hearts),
+            2 => Ok(Suit::Spades),
+            3 => Ok(Suit::Clubs),
+            _ => Err(Refusal::NoSuchCard),
+        }
+    }
+}
+
+impl From<Place> for u8 {
+    ghost from_gives = { λ place number. number ≡ place_number place };
+
+    // The place's number, from 0 for the seven.
+    fn from(place: Place) -> u8 {
+        place as u8
+    }
+}
+
+impl TryFrom<u8> for Place {
+    type Error = Refusal;
+
+    ghost try_from_gives = { λ number result. MatchResult result (λ place. place_number place ≡ number) (λ refusal. (refusal ≡ NoSuchCard) × (8 ≤ number)) };
+
+    // The place of this number, if there is one.
+    fn try_from(number: u8) -> Result<Place, Refusal> {
+        match number {
+            0 => Ok(Place::Seven),
+            1 => Ok(Place::Eight),
+            2 => Ok(Place::Nine),
+            3 => Ok(Place::Queen),
+            4 => Ok(Place::King),
+            5 => Ok(Place::Ten),
+            6 => Ok(Place::Ace),
+            7 => Ok(Place::Jack),
+            _ => Err(Refusal::NoSuchCard),
+        }
+    }
+}
+
+impl From<Card> for u8 {
+    ghost from_gives = { λ card number. number ≡ card_number card };
+
+    // The card's number: 8 times its suit's and its place's.
+    fn from(card: Card) -> u8 {
+        8 * u8::from(card.suit) + u8::from(card.place)
+    }
+}
+
+impl TryFrom<u8> for Card {
+    type Error = Refusal;
+
+    ghost try_from_gives = { λ number result. MatchResult result (λ card. card_number card ≡ number) (λ refusal. (refusal ≡ NoSuchCard) × (32 ≤ number)) };
+
+    // The card of this number, if there is one.
+    fn try_from(number: u8) -> Result<Card, Refusal> {
+        let suit = Suit::try_from(number / 8)?;
+        let place = Place::try_from(number % 8)?;
+        Ok(Card { suit, place })
     }
 }

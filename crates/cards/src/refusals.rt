@@ -68,3 +68,12 @@ impl Refusal {
         }
     }
 }
+
+impl From<Refusal> for u8 {
+    ghost from_gives = { λ refusal number. number ≡ refusal_number refusal };
+
+    // The number that is answered in place of 0.
+    fn from(refusal: Refusal) -> u8 {
+        refusal.number()
+    }
+}

@@ -1,6 +1,9 @@
 // The three seats of a deal.
-ghost use Rattle.std.specs.Prelude.{◌≡◌, ◌≤◌, MatchOption};
+ghost use Rattle.std.specs.Prelude.{◌≡◌, ◌≤◌, MatchOption, MatchResult};
 ghost use Rattle.cards.specs.Seats.{seat_number};
+ghost use Rattle.cards.specs.declared.refusals.Refusal.TheVariants.{NoSuchSeat};
+
+use super::refusals::Refusal;
 
 // Forehand leads to the first trick; the others follow in this order.
 #[derive(Clone, Copy, PartialEq, Eq, Drop)]
@@ -11,14 +14,12 @@ pub enum Seat {
 }
 
 impl Seat {
-    // The seat's number, from 0 for forehand.
     pub fn number(self) -> u8
         ensures { result ≡ seat_number self }
     {
         self as u8
     }
 
-    // The seat of this number, if there is one.
     pub fn from_number(number: u8) -> Option<Seat>
         ensures { MatchOption result (3 ≤ number) (λ seat. seat_number seat ≡ number) }
     {
@@ -27,6 +28,31 @@ impl Seat {
             1 => Some(Seat::Middlehand),
             2 => Some(Seat::Rearhand),
             _ => None,
+        }
+    }
+}
+
+impl From<Seat> for u8 {
+    ghost from_gives = { λ seat number. number ≡ seat_number seat };
+
+    // The seat's number, from 0 for forehand.
+    fn from(seat: Seat) -> u8 {
+        seat as u8
+    }
+}
+
+impl TryFrom<u8> for Seat {
+    type Error = Refusal;
+
+    ghost try_from_gives = { λ number result. MatchResult result (λ seat. seat_number seat ≡ number) (λ refusal. (refusal ≡ NoSuchSeat) × (3 ≤ number)) };
+
+    // The seat of this number, if there is one.
+    fn try_from(number: u8) -> Result<Seat, Refusal> {
+        match number {
+            0 => Ok(Seat::Forehand),
+            1 => Ok(Seat::Middlehand),
+            2 => Ok(Seat::Rearhand),
+            _ => Err(Refusal::NoSuchSeat),
         }
     }
 }
