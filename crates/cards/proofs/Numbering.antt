@@ -22,9 +22,9 @@ pub record Noted (numbers : List ℕ) (i : ℕ) (cards : List Card) (seen : List
 none_seen : (n : ℕ) → get_or (replicate 32 false) n false ≡ false
 none_seen n = ⊎_elim (λ h. get_or-replicate 32 n false false h) (λ h. get_or_past (replicate 32 false) n false h) (cases_lt n 32)
 
-pub noted_none : (numbers : List ℕ) (card : Card) → Noted numbers 0 (replicate 32 card) (replicate 32 false)
-noted_none numbers card = record {
-  room = refl;
+pub noted_none : (numbers : List ℕ) (cards : List Card) → length cards ≡ 32 → Noted numbers 0 cards (replicate 32 false)
+noted_none numbers cards long = record {
+  room = long;
   long = refl;
   named = refl;
   low = tt;

@@ -2,7 +2,6 @@
 -- That none is ahead of it rests on `irreflexive` and `transitive` alone; that it is the earliest such rests on `weak` too.
 use Rattle.std.proofs.Common.{◌≡◌, ℕ, ◌+◌, ◌<◌, ◌≤◌, Bool, true, false, cond, ◌||◌, List, [], ◌∷◌, length, get_or, refl, ap, ◌∙◌, ⊎_elim, arith, below_more}
 use Rattle.std.proofs.lemmas.Bool.{both_ways, cases_order, or_cases}
-use Rattle.std.proofs.lemmas.List.{get_or_default}
 use Rattle.cards.specs.First.{IsFirst}
 
 -- none of the first i items is ahead of the one at b
@@ -16,7 +15,6 @@ AheadOfEarlier {A} ahead items b = (k : ℕ) (d : A) → k < b → ahead (get_or
 -- the best of the first i items
 pub record Best {A : Type 0} (ahead : A → A → Bool) (items : List A) (i b : ℕ) : Type 0 where
   pub within : b < length items
-  pub seen : b < i
   pub none : NoneBefore ahead items i b
   pub early : AheadOfEarlier ahead items b
 
@@ -29,7 +27,6 @@ module _ {A : Type 0} (ahead : A → A → Bool) (items : List A) (i b : ℕ) (s
   keeps : ((d : A) → ahead (get_or items i d) (get_or items b d) ≡ false) → Best ahead items (i + 1) b
   keeps behind = record {
     within = sofar.within;
-    seen = omega (arith, sofar.seen);
     none = λ k d. below_more (λ k. ahead (get_or items k d) (get_or items b d) ≡ false) i (λ k h. sofar.none k d h) (behind d) k;
     early = sofar.early;
   }
@@ -59,24 +56,15 @@ module _
     (irreflexive : (a : A) → ahead a a ≡ false)
     (transitive : (a b c : A) → ahead a b ≡ true → ahead b c ≡ true → ahead a c ≡ true)
     (weak : (a b c : A) → ahead a b ≡ true → (ahead c b || ahead a c) ≡ true) where
-  chosen_more : (items : List A) (i b next : ℕ) → i < length items → Best ahead items i b → (t : Bool) → ((d : A) → ahead (get_or items i d) (get_or items b d) ≡ t) → next ≡ cond t i b → Best ahead items (i + 1) next
-  chosen_more items i b next within sofar true leads chosen =
+  -- one item more: the best is the new one if it is ahead, else the old
+  pub best_more : (items : List A) (i b next : ℕ) → i < length items → Best ahead items i b → (t : Bool) → ((d : A) → ahead (get_or items i d) (get_or items b d) ≡ t) → next ≡ cond t i b → Best ahead items (i + 1) next
+  best_more items i b next within sofar true leads chosen =
       rw chosen (record {
         within = within;
-        seen = omega arith;
         none = takes_none ahead items i b sofar transitive leads irreflexive;
         early = takes_early ahead items i b sofar transitive leads weak;
       })
-  chosen_more items i b next within sofar false behind chosen = rw chosen (keeps ahead items i b sofar behind)
-
-  -- one item more: the best is the new one if it is ahead, else the old
-  pub best_more : (items : List A) (i b next : ℕ) → i < length items → Best ahead items i b → ((d : A) → next ≡ cond (ahead (get_or items i d) (get_or items b d)) i b) → Best ahead items (i + 1) next
-  best_more [] i b next within sofar chosen = absurd (omega arith)
-  best_more (x ∷ items) i b next within sofar chosen =
-      chosen_more (x ∷ items) i b next within sofar (ahead (get_or (x ∷ items) i x) (get_or (x ∷ items) b x))
-      (λ d. ap (λ y. ahead y (get_or (x ∷ items) b d)) (get_or_default (x ∷ items) i d x within)
-      ∙ ap (ahead (get_or (x ∷ items) i x)) (get_or_default (x ∷ items) b d x sofar.within))
-      (chosen x)
+  best_more items i b next within sofar false behind chosen = rw chosen (keeps ahead items i b sofar behind)
 
 -- the best of all is the first
 pub is_first : {A : Type 0} (ahead : A → A → Bool) (items : List A) (i b : ℕ) → length items ≤ i → Best ahead items i b → IsFirst ahead items b
@@ -87,10 +75,9 @@ is_first ahead (x ∷ items) i b le best = (
   (λ k l none. both_ways _ (none b x best.within) (best.early k x l)),
 )
 
-pub best_none : {A : Type 0} (ahead : A → A → Bool) → ((a : A) → ahead a a ≡ false) → (items : List A) → 0 < length items → Best ahead items 1 0
-best_none ahead irreflexive items some = record {
+pub best_none : {A : Type 0} (ahead : A → A → Bool) (items : List A) → 0 < length items → Best ahead items 0 0
+best_none ahead items some = record {
   within = some;
-  seen = omega arith;
-  none = λ k d lt. let z : k ≡ 0 = omega arith in ap (λ j. ahead (get_or items j d) (get_or items 0 d)) z ∙ irreflexive (get_or items 0 d);
+  none = λ k d lt. absurd (omega arith);
   early = λ k d lt. absurd (omega arith);
 }

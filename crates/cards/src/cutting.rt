@@ -6,25 +6,10 @@ ghost use Rattle.cards.specs.Packs.{IsPack, cut_at, mark_refusal, times};
 ghost use Rattle.cards.specs.Setting.{PackSet};
 ghost use Rattle.cards.specs.Refusals.{answered};
 
-use super::deck::{Card, Place, Suit};
+use super::deck::Card;
 use super::packs::{BadPack, CutPack, UncutPack};
 use super::refusals::Refusal;
-
-const LOWEST: Card = Card {
-    suit: Suit::Diamonds,
-    place: Place::Seven,
-};
-
-// Whether a card's number was not seen before; it is now.
-fn is_new(seen: &mut [bool; 32], number: u8) -> bool
-    requires { number < 32 }
-    ensures answer { result ≡ not (slice_index_or seen.old number false) }
-    ensures seen { seen.new ≡ slice_set seen.old number true }
-{
-    let before = seen[number as usize];
-    seen[number as usize] = true;
-    !before
-}
+use std::mem;
 
 // The cards of these numbers, if they are 32 different cards.
 fn named_cards(numbers: &[u8]) -> Option<[Card; 32]>
@@ -33,33 +18,15 @@ fn named_cards(numbers: &[u8]) -> Option<[Card; 32]>
     if numbers.len() != 32 {
         return None;
     }
-    let mut cards = [LOWEST; 32];
+    let mut cards = Card::deck();
     let mut seen = [false; 32];
-    for i in 0..32 {
-        let number = numbers[i];
-        let Some(card) = Card::from_number(number) else {
-            return None;
-        };
-        if !is_new(&mut seen, number) {
+    for (i, number) in numbers.iter().enumerate() {
+        cards[i] = Card::try_from(*number).ok()?;
+        if mem::replace(&mut seen[*number as usize], true) {
             return None;
         }
-        cards[i] = card;
     }
     Some(cards)
-}
-
-// The cards in the order of their numbers.
-fn ordered_cards() -> [Card; 32]
-    ensures { map card_number result ≡ range_with_len 0 32 }
-{
-    let mut cards = [LOWEST; 32];
-    for number in 0..32u8 {
-        let Some(card) = Card::from_number(number) else {
-            unreachable()
-        };
-        cards[number as usize] = card;
-    }
-    cards
 }
 
 impl UncutPack {
@@ -72,7 +39,7 @@ impl UncutPack {
             Some(cards) => Ok(UncutPack { cards, mark: 16 }),
             None => {
                 let refusal = Refusal::NotAPack;
-                let cards = ordered_cards();
+                let cards = Card::deck();
                 let pack = UncutPack { cards, mark: 16 };
                 Err(BadPack { refusal, pack })
             }
@@ -85,7 +52,7 @@ impl UncutPack {
         ensures cards { self.new.cards ≡ self.old.cards }
         ensures mark { self.new.mark ≡ (if is_ok result then mark else self.old.mark) }
     {
-        if mark < 4 || mark > 28 {
+        if !(4..=28).contains(&mark) {
             return Err(Refusal::NoSuchMark);
         }
         self.mark = mark;

@@ -6,7 +6,7 @@ use super::packs::CutPack;
 use super::seats::Seat;
 
 // Where a card lies once it is dealt.
-#[derive(Clone, Copy, PartialEq, Eq, Drop)]
+#[derive(Clone, Copy, Debug, PartialEq, Eq, Drop)]
 pub enum Dealt {
     Hand(Seat),
     Skat,
@@ -40,8 +40,8 @@ impl CutPack {
     {
         let CutPack { cards } = self;
         let mut dealt = [Dealt::Skat; 32];
-        for position in 0..32 {
-            dealt[cards[position].number() as usize] = receiver_of(position);
+        for (position, card) in cards.iter().enumerate() {
+            dealt[u8::from(*card) as usize] = receiver_of(position);
         }
         dealt
     }

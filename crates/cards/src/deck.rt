@@ -1,13 +1,15 @@
 // The 32 cards: a suit and a place each.
-ghost use Rattle.std.specs.Prelude.{◌≡◌, ◌/◌, ◌%◌, ◌<◌, ◌≤◌, MatchOption, MatchResult};
+ghost use Rattle.std.specs.Prelude.{◌≡◌, ◌/◌, ◌%◌, ◌<◌, ◌≤◌, map, MatchOption, MatchResult};
 ghost use Rattle.cards.specs.declared.refusals.Refusal.TheVariants.{NoSuchCard};
-ghost use Rattle.cards.specs.Deck.{suit_number, place_number, card_number, eyes_of};
+ghost use Rattle.std.specs.List.{range_with_len};
+ghost use Rattle.cards.specs.Deck.{suit_number, place_number, card_number, card_at, eyes_of};
 
 use super::refusals::Refusal;
 use super::units::Eyes;
+use std::array;
 
 // The suits from the lowest to the highest.
-#[derive(Clone, Copy, PartialEq, Eq, Drop)]
+#[derive(Clone, Copy, Debug, PartialEq, Eq, Drop)]
 pub enum Suit {
     Diamonds,
     Hearts,
@@ -16,7 +18,7 @@ pub enum Suit {
 }
 
 // The places of a suit: what stands on a card beside its suit.
-#[derive(Clone, Copy, PartialEq, Eq, Drop)]
+#[derive(Clone, Copy, Debug, PartialEq, Eq, Drop)]
 pub enum Place {
     Seven,
     Eight,
@@ -29,10 +31,36 @@ pub enum Place {
 }
 
 // One of the 32 cards.
-#[derive(Clone, Copy, PartialEq, Eq, Drop)]
+#[derive(Clone, Copy, Debug, PartialEq, Eq, Drop)]
 pub struct Card {
     pub suit: Suit,
     pub place: Place,
+}
+
+// The suits in the order of their numbers.
+const SUITS: [Suit; 4] = [Suit::Diamonds, Suit::Hearts, Suit::Spades, Suit::Clubs];
+
+// The places in the order of their numbers.
+const PLACES: [Place; 8] = [
+    Place::Seven,
+    Place::Eight,
+    Place::Nine,
+    Place::Queen,
+    Place::King,
+    Place::Ten,
+    Place::Ace,
+    Place::Jack,
+];
+
+// The card of a number.
+fn card_at(number: usize) -> Card
+    requires { number < 32 }
+    ensures { result ≡ card_at number }
+{
+    Card {
+        suit: SUITS[number / 8],
+        place: PLACES[number % 8],
+    }
 }
 
 impl Suit {
@@ -103,6 +131,13 @@ impl Card {
         let suit = Suit::from_number(number / 8)?;
         let place = Place::from_number(number % 8)?;
         Some(Card { suit, place })
+    }
+
+    // All cards in the order of their numbers.
+    pub fn deck() -> [Card; 32]
+        ensures { result ≡ map card_at (range_with_len 0 32) }
+    {
+        array::from_fn(card_at)
     }
 
     // What the card counts in a trick.

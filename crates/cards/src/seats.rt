@@ -6,7 +6,7 @@ ghost use Rattle.cards.specs.declared.refusals.Refusal.TheVariants.{NoSuchSeat};
 use super::refusals::Refusal;
 
 // Forehand leads to the first trick; the others follow in this order.
-#[derive(Clone, Copy, PartialEq, Eq, Drop)]
+#[derive(Clone, Copy, Debug, PartialEq, Eq, Drop)]
 pub enum Seat {
     Forehand,
     Middlehand,

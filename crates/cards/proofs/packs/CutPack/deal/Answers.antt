@@ -9,5 +9,5 @@ loop-position-preserved c =
     let position = c.loop-position.position in
     subst
     (λ (n : ℕ). Sent pack.cards (position + 1) (set c.loop-position.dealt n c.receiver_of.result))
-    (sym c.number.ensures)
+    (sym c.from.ensures)
     (sent_more pack.cards pack.once long position _ c.loop-position.dealt c.receiver_of.result c.loop-position-test.true c.loop-position.invariant c.receiver_of.ensures)

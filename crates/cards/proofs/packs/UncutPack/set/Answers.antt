@@ -1,4 +1,4 @@
-use Rattle.std.proofs.Common.{ap, ◌∙◌, arith}
+use Rattle.std.proofs.Common.{map, ap, ◌∙◌, arith}
 use Rattle.cards.specs.Deck.{card_number}
 use Rattle.cards.specs.Packs.{times}
 use Rattle.cards.proofs.Cardinals.{card_below}
@@ -12,5 +12,5 @@ invariant_of-result-clause-once c =
 
 pub invariant_of-pack-clause-once : goal.invariant_of-pack-clause-once
 invariant_of-pack-clause-once c = λ card.
-    ap (times (card_number card)) c.ordered_cards-cards.ensures
+    ap (λ deck. times (card_number card) (map card_number deck)) c.deck-cards.ensures
     ∙ times_counting (card_number card) 0 32 (omega arith) (omega (arith, card_below card))
