@@ -21,7 +21,8 @@ impl fmt::Display for GamePoints {
     ghost output = { λ points. Some (signed_decimal points.0) };
 
     fn fmt<W: fmt::Write>(&self, f: &mut fmt::Formatter<W>) -> fmt::Result {
-        write!(f, "{}", self.0)
+        let points = self.0;
+        write!(f, "{points}")
     }
 }
 
@@ -29,6 +30,7 @@ impl fmt::Display for Rating {
     ghost output = { λ rating. Some (signed_decimal rating.0) };
 
     fn fmt<W: fmt::Write>(&self, f: &mut fmt::Formatter<W>) -> fmt::Result {
-        write!(f, "{}", self.0)
+        let rating = self.0;
+        write!(f, "{rating}")
     }
 }

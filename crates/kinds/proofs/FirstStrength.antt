@@ -1,10 +1,10 @@
--- What is first among the strengths of three cards is first among the cards, for `strongest`.
+-- What is first among the strengths of three cards is first among the cards, for `taker`.
 use Rattle.std.proofs.Common.{◌≡◌, ℕ, ◌<◌, Bool, List, [], ◌∷◌, map, length, get_or, subst, arith}
 use lib.ListN.{length-map}
 use Rattle.std.proofs.lemmas.List.{get_or-map}
 use Rattle.cards.specs.declared.deck.Card.{Card}
 use Rattle.cards.specs.First.{NoneAhead, IsFirst}
-use Rattle.kinds.specs.declared.strengths.Strength.{Strength}
+use Rattle.kinds.specs.declared.tricks.Strength.{Strength}
 use Rattle.kinds.specs.Meanings.{Meaning}
 use Rattle.kinds.specs.Strengths.{strength, is_stronger}
 use Rattle.kinds.specs.Tricks.{beats}

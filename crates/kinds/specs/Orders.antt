@@ -1,7 +1,7 @@
 -- To beat in a trick, and to be the higher strength, are orders.
 use Rattle.std.proofs.Common.{◌≡◌, true, false, ◌||◌, rules}
 use Rattle.cards.specs.declared.deck.Card.{Card}
-use Rattle.kinds.specs.declared.strengths.Strength.{Strength}
+use Rattle.kinds.specs.declared.tricks.Strength.{Strength}
 use Rattle.kinds.specs.Meanings.{Meaning}
 use Rattle.kinds.specs.Strengths.{is_stronger}
 use Rattle.kinds.specs.Tricks.{beats}

@@ -1,7 +1,7 @@
 -- The strength of a card in a trick, which tells what beats what.
 use Rattle.std.specs.Prelude.{Bool, ◌&&◌, ◌||◌, ◌==◌, nat_lt}
 use Rattle.cards.specs.declared.deck.Card.{Card}
-use Rattle.kinds.specs.declared.strengths.Strength.{Strength}
+use Rattle.kinds.specs.declared.tricks.Strength.{Strength}
 use Rattle.kinds.specs.Meanings.{Meaning}
 use Rattle.kinds.specs.Tricks.{force}
 

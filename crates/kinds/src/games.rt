@@ -63,13 +63,13 @@ impl Kind for SuitGame {
         if card.place == Place::Jack || card.suit == self.trump {
             4
         } else {
-            card.suit.number()
+            u8::from(card.suit)
         }
     }
 
     fn rank(&self, card: Card) -> u8 {
         if card.place == Place::Jack {
-            7 + card.suit.number()
+            7 + u8::from(card.suit)
         } else {
             plain_rank(card.place)
         }
@@ -91,13 +91,13 @@ impl Kind for Grand {
         if card.place == Place::Jack {
             4
         } else {
-            card.suit.number()
+            u8::from(card.suit)
         }
     }
 
     fn rank(&self, card: Card) -> u8 {
         if card.place == Place::Jack {
-            card.suit.number()
+            u8::from(card.suit)
         } else {
             plain_rank(card.place)
         }
@@ -116,7 +116,7 @@ impl Kind for Null {
     ghost small = { λ _. null_small };
 
     fn class(&self, card: Card) -> u8 {
-        card.suit.number()
+        u8::from(card.suit)
     }
 
     fn rank(&self, card: Card) -> u8 {

@@ -3,5 +3,4 @@
 
 pub mod games;
 pub mod kind;
-pub mod strengths;
 pub mod tricks;

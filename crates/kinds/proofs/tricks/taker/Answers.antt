@@ -1,19 +1,19 @@
-use Rattle.std.proofs.Common.{◌≡◌, length, get_or, subst, arith, rules}
-use Rattle.std.proofs.lemmas.List.{get_or_default}
+use Rattle.std.proofs.Common.{◌≡◌, length, get_or, arith, rules}
 use Rattle.cards.specs.declared.deck.Card.{Card}
 use Rattle.cards.specs.First.{IsFirst}
 use Rattle.kinds.specs.Tricks.{beats}
+use Rattle.kinds.proofs.FirstStrength.{first_of_trick}
 use Rattle.kinds.proofs.Unbeaten.{only_unbeaten}
 use Rattle.kinds.proofs.tricks.taker.Goals as goal
 
 pub returns : goal.returns
 returns g c =
-    let m = g.K.Kind.meaning c.args.kind in
+    let m = g.K.Kind.meaning c.args.kind.now in
     let trick = c.args.trick in
     let three : length trick ≡ 3 = search rules in
     let first : (d : Card) → IsFirst (beats m (get_or trick 0 d)) trick c.in-Some.i =
-    λ d. subst (λ (led : Card). IsFirst (beats m led) trick c.in-Some.i) (get_or_default trick 0 _ d (omega arith)) c.in-Some.ensures in
+    λ d. first_of_trick m _ d _ _ _ trick c.in-Some.i three c.of_card.ensures c.of_card-2.ensures c.of_card-3.ensures c.in-Some.ensures in
     record {
       first = first;
-      only = λ different d. only_unbeaten m (g.met.K.Kind.apart c.args.kind) trick three d c.in-Some.i (omega (arith, (first d).0)) (first d).1 different;
+      only = λ different d. only_unbeaten m (g.met.K.Kind.apart c.args.kind.now) trick three d c.in-Some.i (omega (arith, (first d).0)) (first d).1 different;
     }
