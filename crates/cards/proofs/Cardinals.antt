@@ -14,7 +14,7 @@ suit_below Hearts = lit< tt
 suit_below Spades = lit< tt
 suit_below Clubs = lit< tt
 
-place_below : (p : Place) → place_number p < 8
+pub place_below : (p : Place) → place_number p < 8
 place_below Seven = lit< tt
 place_below Eight = lit< tt
 place_below Nine = lit< tt

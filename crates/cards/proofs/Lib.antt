@@ -1,4 +1,5 @@
 pub mod Cardinals
+pub mod Equality
 mod Handing
 mod Numbering
 mod Scan

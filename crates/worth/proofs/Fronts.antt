@@ -1,11 +1,14 @@
 -- The front of a run on which a test holds, and a card among others, for `tops` and `is_among`.
-use Rattle.std.proofs.Common.{◌≡◌, ℕ, zero, suc, ◌+◌, ◌<◌, ◌≤◌, Bool, true, false, cond, ◌||◌, eqb, List, [], ◌∷◌, length, get_or, drop, sym, refl, ap, ◌∙◌, arith, below_more}
-use Rattle.std.specs.List.{prefix_len}
-use Rattle.std.proofs.lemmas.List.{at_drop_more, at_drop_all}
-use Rattle.std.proofs.lemmas.Bool.{true≢false, false≢true, eq-eqb, ne_eqb, or_left}
+use Rattle.std.proofs.Common.{◌≡◌, ℕ, zero, suc, ◌+◌, ◌<◌, ◌≤◌, Bool, true, false, cond, ◌&&◌, eqb, List, [], ◌∷◌, length, get_or, sym, refl, ap, ◌∙◌, arith, below_more}
+use denote.Enum.Bare.{sameb}
+use Rattle.std.specs.List.{prefix_len, list_any}
+use Rattle.std.proofs.lemmas.Bool.Decides.{nat_tests}
 use Rattle.std.proofs.lemmas.List.Sums.{prefix_len-le-length}
+use Rattle.cards.specs.contracts.deck.Suit.{the_type as suit_type}
+use Rattle.cards.specs.contracts.deck.Place.{the_type as place_type}
 use Rattle.cards.specs.declared.deck.Card.{Card}
 use Rattle.cards.specs.Deck.{card_number}
+use Rattle.cards.proofs.Equality.{same_numbers}
 use Rattle.worth.specs.Tops.{is_among, is_same, is_alike, tops_of}
 
 leading_at : {A : Type 0} (test : A → Bool) (xs : List A) (n : ℕ) → n ≤ length xs → ((k : ℕ) (d : A) → k < n → test (get_or xs k d) ≡ true) → (n < length xs → (d : A) → test (get_or xs n d) ≡ false) → prefix_len test xs ≡ n
@@ -53,43 +56,26 @@ pub tops_high : (run cards : List Card) → tops_of run cards ≤ length run
 tops_high [] cards = omega arith
 tops_high (x ∷ run) cards = prefix_len-le-length (is_alike cards x) (x ∷ run)
 
--- a card looked for from a place on
-module _ (cards : List Card) (card : Card) (i : ℕ) where
-  pub among_here : (d : Card) → i < length cards → card_number card ≡ card_number (get_or cards i d) → is_among (drop i cards) card ≡ true
-  among_here d lt same =
-      at_drop_more (λ cs. is_among cs card) cards i d lt ∙ or_left (eqb (card_number card) (card_number (get_or cards i d))) _ (eq-eqb _ _ same)
-
-  pub among_later : (d : Card) → i < length cards → (card_number card ≡ card_number (get_or cards i d) → ⊥) → is_among (drop i cards) card ≡ is_among (drop (i + 1) cards) card
-  among_later d lt differ =
-      at_drop_more (λ cs. is_among cs card) cards i d lt ∙ ap (λ b. b || is_among (drop (i + 1) cards) card) (ne_eqb _ _ differ)
-
-  pub among_none : length cards ≤ i → is_among (drop i cards) card ≡ false
-  among_none end = at_drop_all (λ cs. is_among cs card) cards i end
-
-same_is : (a b : Bool) → is_same a b ≡ true → b ≡ a
-same_is true b e = e
-same_is false true e = absurd (false≢true e)
-same_is false false e = refl
-
-same_not : (a b : Bool) → is_same a b ≡ false → b ≡ a → ⊥
-same_not true b e d = false≢true (sym e ∙ d)
-same_not false true e d = true≢false d
-same_not false false e d = true≢false e
+-- a card is among others, as `==` tells it
+pub among_same : (cards : List Card) (card : Card) → list_any (λ other. sameb suit_type other.suit card.suit && sameb place_type other.place card.place) cards ≡ is_among cards card
+among_same [] card = refl
+among_same (other ∷ cards) card =
+    let here = same_numbers other card in
+    let turned : eqb (card_number other) (card_number card) ≡ eqb (card_number card) (card_number other) = grind (arith, nat_tests) in
+    let more = among_same cards card in
+    cc
 
 -- the first n of a run are found or missing like the first of them
 abbrev pub Alike : List Card → List Card → Bool → ℕ → Type 0
 Alike run cards with n = (n ≤ length run) × ((k : ℕ) (d : Card) → k < n → is_among cards (get_or run k d) ≡ with)
 
 module _ (run cards : List Card) (with : Bool) (n : ℕ) (card : Card) (sofar : Alike run cards with n) (here : (n < length run) × ((d : Card) → get_or run n d ≡ card)) where
-  pub alike_more : is_same with (is_among cards card) ≡ true → Alike run cards with (n + 1)
+  pub alike_more : is_among cards card ≡ with → Alike run cards with (n + 1)
   alike_more same = (
     omega (arith, here.0),
-    (λ k d. below_more (λ j. is_among cards (get_or run j d) ≡ with) n (λ j h. sofar.1 j d h) (ap (is_among cards) (here.1 d) ∙ same_is with (is_among cards card) same) k),
+    (λ k d. below_more (λ j. is_among cards (get_or run j d) ≡ with) n (λ j h. sofar.1 j d h) (ap (is_among cards) (here.1 d) ∙ same) k),
   )
 
-  pub alike_ends : (first : Card) → 0 < length run → ((d : Card) → get_or run 0 d ≡ first) → with ≡ is_among cards first → is_same with (is_among cards card) ≡ false → (n ≡ tops_of run cards) × (n ≤ length run)
-  alike_ends first some begins is other = (
-    tops_broken run cards first n some begins sofar.0 (λ k d h. sofar.1 k d h ∙ is) card here.1
-        (λ e. same_not with (is_among cards card) other (e ∙ sym is)),
-    sofar.0,
-  )
+  pub alike_ends : (first : Card) → 0 < length run → ((d : Card) → get_or run 0 d ≡ first) → with ≡ is_among cards first → (is_among cards card ≡ with → ⊥) → n ≡ tops_of run cards
+  alike_ends first some begins is other =
+      tops_broken run cards first n some begins sofar.0 (λ k d h. sofar.1 k d h ∙ is) card here.1 (λ e. other (e ∙ sym is))

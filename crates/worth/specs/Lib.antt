@@ -5,6 +5,7 @@ pub mod Bounds
 pub mod Examples
 pub mod GameLaws
 pub mod Levels
+pub mod Rated
 pub mod Tops
 pub mod Worth
 pub mod WorthLaws

@@ -1,7 +1,8 @@
 // The games that can be announced, each the kind that it names.
-ghost use Rattle.std.specs.Prelude.{◌≡◌, ℕ, ◌≤◌, true, MatchOption};
+ghost use Rattle.std.specs.Prelude.{◌≡◌, ℕ, ◌≤◌, true, MatchResult};
 ghost use Rattle.cards.specs.Units.{is_game_value};
-ghost use Rattle.worth.specs.Announced.{game_number, game_meaning, game_run, game_counts};
+ghost use Rattle.cards.specs.declared.refusals.Refusal.TheVariants.{NoSuchGame};
+ghost use Rattle.worth.specs.Announced.{game_number, game_meaning, game_rated, game_run, game_counts};
 ghost use Rattle.worth.specs.Examples.{AllHold, examples as worked_examples};
 ghost use Rattle.worth.specs.GameLaws.{game_apart, game_small, game_short, game_in};
 ghost use Rattle.worth.specs.Tops.{tops_of};
@@ -11,6 +12,7 @@ use super::finished::Finished;
 use super::rated::RatedKind;
 use super::tops::result;
 use cards::deck::{Card, Suit};
+use cards::refusals::Refusal;
 use cards::units::GamePoints;
 use kinds::games::{Grand, Null, SuitGame};
 use kinds::kind::Kind;
@@ -22,28 +24,32 @@ pub enum Game {
     Null(Null),
 }
 
-impl Game {
+impl From<Game> for u8 {
+    ghost from_gives = { λ game number. number ≡ game_number game };
+
     // The game's number: 0 to 3 for the suits, 4 for grand, 5 for null.
-    pub fn number(self) -> u8
-        ensures { result ≡ game_number self }
-    {
-        match self {
-            Game::Suit(game) => game.trump.number(),
+    fn from(game: Game) -> u8 {
+        match game {
+            Game::Suit(game) => u8::from(game.trump),
             Game::Grand(_) => 4,
             Game::Null(_) => 5,
         }
     }
+}
+
+impl TryFrom<u8> for Game {
+    type Error = Refusal;
+
+    ghost try_from_gives = { λ number result. MatchResult result (λ game. game_number game ≡ number) (λ refusal. (refusal ≡ NoSuchGame) × (6 ≤ number)) };
 
     // The game of this number, if there is one.
-    pub fn from_number(number: u8) -> Option<Game>
-        ensures { MatchOption result (6 ≤ number) (λ game. game_number game ≡ number) }
-    {
+    fn try_from(number: u8) -> Result<Game, Refusal> {
         match number {
-            4 => Some(Game::Grand(Grand)),
-            5 => Some(Game::Null(Null)),
+            4 => Ok(Game::Grand(Grand)),
+            5 => Ok(Game::Null(Null)),
             _ => {
-                let trump = Suit::from_number(number)?;
-                Some(Game::Suit(SuitGame { trump }))
+                let trump = Suit::try_from(number).map_err(|_| Refusal::NoSuchGame)?;
+                Ok(Game::Suit(SuitGame { trump }))
             }
         }
     }
@@ -84,9 +90,7 @@ impl Kind for Game {
 impl RatedKind for Game {
     const RUN: usize = 11;
 
-    ghost run = { game_run };
-
-    ghost counts = { game_counts };
+    ghost rated = { game_rated };
 
     ghost short = { game_short };
 

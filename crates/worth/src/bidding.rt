@@ -1,8 +1,10 @@
 // Which numbers are bids.
-ghost use Rattle.std.specs.Prelude.{◌≡◌, ◌<◌, false, MatchOption};
+ghost use Rattle.std.specs.Prelude.{◌≡◌, ◌<◌, false, MatchResult};
+ghost use Rattle.cards.specs.declared.refusals.Refusal.TheVariants.{NoBidValue};
 ghost use Rattle.worth.specs.BidValues.{is_bid, is_multiple as is_multiple_of};
 
 use super::bids::Bid;
+use cards::refusals::Refusal;
 
 // Whether a number is a base taken from twice to so many times.
 fn is_multiple(value: u16, base: u16, most: u16) -> bool
@@ -24,21 +26,25 @@ pub fn is_bid_value(value: u16) -> bool
         || is_multiple(value, 24, 11)
 }
 
-impl Bid {
+impl TryFrom<u16> for Bid {
+    type Error = Refusal;
+
+    ghost try_from_gives = { λ value result. MatchResult result (λ bid. bid.value ≡ value) (λ refusal. (refusal ≡ NoBidValue) × (is_bid value ≡ false)) };
+
     // The bid of this value, if it is a bid value.
-    pub fn new(value: u16) -> Option<Bid>
-        ensures { MatchOption result (is_bid value ≡ false) (λ bid. bid.value ≡ value) }
-    {
+    fn try_from(value: u16) -> Result<Bid, Refusal> {
         if is_bid_value(value) {
-            Some(Bid { value })
+            Ok(Bid { value })
         } else {
-            None
+            Err(Refusal::NoBidValue)
         }
     }
+}
 
-    pub fn value(self) -> u16
-        ensures { result ≡ self.value }
-    {
-        self.value
+impl From<Bid> for u16 {
+    ghost from_gives = { λ bid value. value ≡ bid.value };
+
+    fn from(bid: Bid) -> u16 {
+        bid.value
     }
 }

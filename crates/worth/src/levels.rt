@@ -1,8 +1,11 @@
 // The levels that a game can be announced at.
-ghost use Rattle.std.specs.Prelude.{◌≡◌, ◌≤◌, MatchOption};
+ghost use Rattle.std.specs.Prelude.{◌≡◌, ◌≤◌, MatchResult};
+ghost use Rattle.cards.specs.declared.refusals.Refusal.TheVariants.{NoSuchGame};
 ghost use Rattle.worth.specs.Levels.{level_number};
 
-#[derive(Clone, Copy, PartialEq, Eq, Drop)]
+use cards::refusals::Refusal;
+
+#[derive(Clone, Copy, Debug, PartialEq, Eq, Drop)]
 pub enum Level {
     Plain,
     Schneider,
@@ -10,23 +13,28 @@ pub enum Level {
     Ouvert,
 }
 
-impl Level {
-    pub fn number(self) -> u8
-        ensures { result ≡ level_number self }
-    {
-        self as u8
+impl From<Level> for u8 {
+    ghost from_gives = { λ level number. number ≡ level_number level };
+
+    // The level's number, from 0 where none was announced.
+    fn from(level: Level) -> u8 {
+        level as u8
     }
+}
+
+impl TryFrom<u8> for Level {
+    type Error = Refusal;
+
+    ghost try_from_gives = { λ number result. MatchResult result (λ level. level_number level ≡ number) (λ refusal. (refusal ≡ NoSuchGame) × (4 ≤ number)) };
 
     // The level of this number, if there is one.
-    pub fn from_number(number: u8) -> Option<Level>
-        ensures { MatchOption result (4 ≤ number) (λ level. level_number level ≡ number) }
-    {
+    fn try_from(number: u8) -> Result<Level, Refusal> {
         match number {
-            0 => Some(Level::Plain),
-            1 => Some(Level::Schneider),
-            2 => Some(Level::Schwarz),
-            3 => Some(Level::Ouvert),
-            _ => None,
+            0 => Ok(Level::Plain),
+            1 => Ok(Level::Schneider),
+            2 => Ok(Level::Schwarz),
+            3 => Ok(Level::Ouvert),
+            _ => Err(Refusal::NoSuchGame),
         }
     }
 }

@@ -1,13 +1,10 @@
 // What suit games, grand and null are worth.
-ghost use Rattle.std.specs.Prelude.{[]};
-ghost use Rattle.worth.specs.Tops.{suit_run, grand_run};
-ghost use Rattle.worth.specs.Bases.{suit_base, grand_base};
-ghost use Rattle.worth.specs.Worth.{trump_worth, null_worth};
+ghost use Rattle.worth.specs.Rated.{suit_rated, grand_rated, null_rated};
 ghost use Rattle.worth.specs.Bounds.{suit_short, grand_short, null_short, suit_in, grand_in, null_in};
 
 use super::finished::Finished;
 use super::rated::RatedKind;
-use super::values::{null_worth, suit_base, trump_worth};
+use super::values::{Base, null_worth, trump_worth};
 use cards::deck::{Card, Place, Suit};
 use cards::units::GamePoints;
 use kinds::games::{Grand, Null, SuitGame};
@@ -15,9 +12,7 @@ use kinds::games::{Grand, Null, SuitGame};
 impl RatedKind for SuitGame {
     const RUN: usize = 11;
 
-    ghost run = { λ game. suit_run game.trump };
-
-    ghost counts = { λ game tops finished. trump_worth (suit_base game.trump) tops finished };
+    ghost rated = { λ game. suit_rated game.trump };
 
     ghost short = { λ kind. suit_short kind.trump };
 
@@ -46,16 +41,14 @@ impl RatedKind for SuitGame {
     }
 
     fn worth(&self, tops: u8, game: &Finished) -> GamePoints {
-        trump_worth(suit_base(self.trump), tops, game)
+        trump_worth(Base::from(self.trump), tops, game)
     }
 }
 
 impl RatedKind for Grand {
     const RUN: usize = 4;
 
-    ghost run = { λ _. grand_run };
-
-    ghost counts = { λ _ tops finished. trump_worth grand_base tops finished };
+    ghost rated = { λ _. grand_rated };
 
     ghost short = { λ _. grand_short };
 
@@ -80,16 +73,14 @@ impl RatedKind for Grand {
     }
 
     fn worth(&self, tops: u8, game: &Finished) -> GamePoints {
-        trump_worth(24, tops, game)
+        trump_worth(Base::grand(), tops, game)
     }
 }
 
 impl RatedKind for Null {
     const RUN: usize = 0;
 
-    ghost run = { λ _. [] };
-
-    ghost counts = { λ _ _ finished. null_worth finished };
+    ghost rated = { λ _. null_rated };
 
     ghost short = { λ _. null_short };
 

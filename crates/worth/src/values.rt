@@ -1,32 +1,84 @@
 // What a finished game counts.
 ghost use Rattle.std.specs.Prelude.{◌≡◌, ◌*◌, ◌<◌, ◌≤◌, pos, neg_ℤ};
-ghost use Rattle.worth.specs.Bases.{suit_base, null_value_at};
-ghost use Rattle.worth.specs.Worth.{one_if, is_schneider, is_schwarz, steps_at, factor as factor_of, is_reached, times_in, trump_worth, null_worth};
+ghost use Rattle.worth.specs.Bases.{suit_base, grand_base, null_value_at};
+ghost use Rattle.worth.specs.Worth.{is_schneider, is_schwarz, steps_at, factor as factor_of, is_reached, times_in, trump_worth, null_worth};
 
 use super::finished::Finished;
 use super::levels::Level;
 use cards::deck::Suit;
 use cards::units::GamePoints;
 
-// The base of a suit game.
-pub(super) fn suit_base(suit: Suit) -> u32
-    ensures value { result ≡ suit_base suit }
-    ensures low { 9 ≤ result }
-    ensures high { result ≤ 12 }
-{
-    match suit {
-        Suit::Diamonds => 9,
-        Suit::Hearts => 10,
-        Suit::Spades => 11,
-        Suit::Clubs => 12,
+// What a suit or grand game counts once.
+#[derive(Clone, Copy, Drop)]
+pub(super) struct Base {
+    points: u32,
+    ghost low: { 1 ≤ points },
+    ghost high: { points ≤ 24 },
+}
+
+// What a game counts before it is known to be won or lost.
+#[derive(Clone, Copy, Drop)]
+struct Value {
+    points: u32,
+    ghost high: { points ≤ 1573440 },
+}
+
+impl From<Suit> for Base {
+    ghost from_gives = { λ suit base. base.points ≡ suit_base suit };
+
+    // The base of the game in which this suit is trump.
+    fn from(suit: Suit) -> Base {
+        let points = match suit {
+            Suit::Diamonds => 9,
+            Suit::Hearts => 10,
+            Suit::Spades => 11,
+            Suit::Clubs => 12,
+        };
+        Base { points }
     }
 }
 
-fn one_if(test: bool) -> u32
-    ensures value { result ≡ one_if test }
-    ensures bound { result ≤ 1 }
-{
-    if test { 1 } else { 0 }
+impl Base {
+    // The base of grand.
+    pub(super) fn grand() -> Base
+        ensures { result.points ≡ grand_base }
+    {
+        Base { points: 24 }
+    }
+
+    // The base so many times.
+    fn times(self, times: u32) -> Value
+        requires { times ≤ 65560 }
+        ensures { result.points ≡ self.points * times }
+    {
+        Value {
+            points: self.points * times,
+        }
+    }
+
+    // How often the base goes into the bid, rounded up.
+    fn times_in(self, bid: u16) -> u32
+        ensures value { result ≡ times_in self.points bid }
+        ensures bound { result ≤ 65560 }
+    {
+        u32::from(bid).div_ceil(self.points)
+    }
+}
+
+impl Value {
+    // What the game counts if it is won.
+    fn won(self) -> GamePoints
+        ensures { result.0 ≡ pos self.points }
+    {
+        GamePoints(self.points as i32)
+    }
+
+    // What the game counts if it is lost: minus twice as much.
+    fn lost(self) -> GamePoints
+        ensures { result.0 ≡ neg_ℤ (pos (2 * self.points)) }
+    {
+        GamePoints(-((2 * self.points) as i32))
+    }
 }
 
 // Whether either side has at most 30 eyes.
@@ -49,8 +101,8 @@ fn steps(level: Level, schneider: bool, schwarz: bool) -> u32
     ensures bound { result ≤ 5 }
 {
     match level {
-        Level::Plain => one_if(schneider) + one_if(schwarz),
-        Level::Schneider => 2 + one_if(schwarz),
+        Level::Plain => u32::from(schneider) + u32::from(schwarz),
+        Level::Schneider => 2 + u32::from(schwarz),
         Level::Schwarz => 4,
         Level::Ouvert => 5,
     }
@@ -62,7 +114,7 @@ fn factor(tops: u8, game: &Finished) -> u32
     ensures bound { result ≤ 262 }
 {
     let steps = steps(game.level, is_schneider(game), is_schwarz(game));
-    tops as u32 + 1 + one_if(game.hand) + steps
+    u32::from(tops) + 1 + u32::from(game.hand) + steps
 }
 
 // Whether the declarer has what the level asks for.
@@ -76,53 +128,18 @@ fn is_reached(game: &Finished) -> bool
     }
 }
 
-// A base so many times, neither too large for a game.
-fn product(base: u32, times: u32) -> u32
-    requires { (base ≤ 24) × (times ≤ 65560) }
-    ensures value { result ≡ base * times }
-    ensures bound { result ≤ 1573440 }
-{
-    base * times
-}
-
-// How often the base goes into the bid, rounded up.
-fn times_in(base: u32, bid: u16) -> u32
-    requires { (1 ≤ base) × (base ≤ 24) }
-    ensures value { result ≡ times_in base bid }
-    ensures bound { result ≤ 65560 }
-{
-    (bid as u32 + base - 1) / base
-}
-
-// What a game of this value counts if it is won.
-fn won(value: u32) -> GamePoints
-    requires { value ≤ 1573440 }
-    ensures { result.0 ≡ pos value }
-{
-    GamePoints(value as i32)
-}
-
-// What a game of this value counts if it is lost: minus twice as much.
-fn lost(value: u32) -> GamePoints
-    requires { value ≤ 1573440 }
-    ensures { result.0 ≡ neg_ℤ (pos (2 * value)) }
-{
-    GamePoints(-((2 * value) as i32))
-}
-
 // What a suit or grand game of this base counts.
-pub(super) fn trump_worth(base: u32, tops: u8, game: &Finished) -> GamePoints
-    requires { (1 ≤ base) × (base ≤ 24) }
-    ensures { result.0 ≡ trump_worth base tops game.now }
+pub(super) fn trump_worth(base: Base, tops: u8, game: &Finished) -> GamePoints
+    ensures { result.0 ≡ trump_worth base.points tops game.now }
 {
-    let bid = game.bid.value();
+    let bid = u16::from(game.bid);
     let factor = factor(tops, game);
-    let value = product(base, factor);
-    if is_reached(game) && value >= bid as u32 {
-        return won(value);
+    let value = base.times(factor);
+    if is_reached(game) && value.points >= u32::from(bid) {
+        value.won()
+    } else {
+        base.times(factor.max(base.times_in(bid))).lost()
     }
-    let times = factor.max(times_in(base, bid));
-    lost(product(base, times))
 }
 
 // What null is worth.
@@ -142,10 +159,12 @@ pub fn null_value(level: Level, hand: bool) -> u32
 pub(super) fn null_worth(game: &Finished) -> GamePoints
     ensures { result.0 ≡ null_worth game.now }
 {
-    let value = null_value(game.level, game.hand);
+    let value = Value {
+        points: null_value(game.level, game.hand),
+    };
     if game.declarer.tricks.0 == 0 {
-        won(value)
+        value.won()
     } else {
-        lost(value)
+        value.lost()
     }
 }

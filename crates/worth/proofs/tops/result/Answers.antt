@@ -7,6 +7,6 @@ returns g c =
     let kind = c.args.kind.now in
     let game = c.args.game.now in
     record {
-      value = c.worth.ensures ∙ ap (λ n. g.K.RatedKind.counts kind n game) c.tops.ensures.value;
+      value = c.worth.ensures ∙ ap (λ n. (g.K.RatedKind.rated kind).counts n game) c.tops.ensures.value;
       range = ap is_game_value c.worth.ensures ∙ g.met.K.RatedKind.bounded kind c.tops.result game c.tops.ensures.bound;
     }

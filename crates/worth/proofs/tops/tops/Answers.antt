@@ -1,35 +1,50 @@
-use Rattle.std.proofs.Common.{◌≡◌, ℕ, ◌<◌, get_or, sym, ap, ◌∙◌, arith}
+use Rattle.std.proofs.Common.{◌≡◌, ℕ, ◌<◌, Bool, true, false, get_or, refl, sym, ap, ◌∙◌, arith}
+use Rattle.std.proofs.Math.Bool.{beq}
+use Rattle.std.proofs.lemmas.Bool.{true≢false}
 use Rattle.worth.specs.Tops.{is_among}
 use Rattle.worth.proofs.Fronts.{alike_more, alike_ends, tops_all}
 use Rattle.worth.proofs.tops.tops.Goals as goal
-use Rattle.worth.proofs.tops.tops.Goals.{then-n-run, else-n-run+in-Some-top+then-not-is_alike}
+use Rattle.worth.proofs.tops.tops.Goals.{in_default-top-2, in_default-top}
+
+same_when : (a b : Bool) → beq a b ≡ true → a ≡ b
+same_when true true e = refl
+same_when false false e = refl
+same_when true false e = sym e
+same_when false true e = e
+
+other_when : (a b : Bool) → beq a b ≡ false → a ≡ b → ⊥
+other_when true true e d = absurd (true≢false e)
+other_when false false e d = absurd (true≢false e)
+other_when true false e d = true≢false d
+other_when false true e d = true≢false (sym d)
 
 zero_from : {k : ℕ} → k < 1 → k ≡ 0
 zero_from h = omega arith
 
-pub loop-n-init : goal.loop-n-init
-loop-n-init g c =
+pub loop-card-init : goal.loop-card-init
+loop-card-init g c =
     let first = c.in-Some.ensures in (
       first.0,
-      (λ k d h. ap (is_among c.args.cards.now) (ap (λ j. get_or (g.K.RatedKind.run c.args.kind.now) j d) (zero_from h) ∙ first.1 d) ∙ sym c.is_among-with.ensures),
+      (λ k d h. ap (is_among c.args.cards.now) (ap (λ j. get_or (g.K.RatedKind.rated c.args.kind.now).run j d) (zero_from h) ∙ first.1 d) ∙ sym c.is_among-with.ensures),
     )
 
-pub loop-n-preserved : goal.loop-n-preserved
-loop-n-preserved g c =
-    alike_more (g.K.RatedKind.run c.args.kind.now) c.args.cards.now c.is_among-with.result c.loop-n.n c.in-Some-top.card c.loop-n.invariant c.in-Some-top.ensures (sym c.is_alike.ensures ∙ c.if-not-is_alike.false)
+pub loop-card-preserved : goal.loop-card-preserved
+loop-card-preserved g c =
+    alike_more (g.K.RatedKind.rated c.args.kind.now).run c.args.cards.now c.is_among-with.result c.loop-card.n c.in-Some-top.card c.loop-card.invariant c.in-Some-top.ensures (sym c.is_among.ensures ∙ same_when _ _ c.if-is_among-with.true)
 
-pub returns : goal.returns
-returns g c =
-    let run = g.K.RatedKind.run c.args.kind.now in
+pub returns-clause-value : goal.returns-clause-value
+returns-clause-value g c =
+    let run = (g.K.RatedKind.rated c.args.kind.now).run in
     let cards = c.args.cards.now in
-    let n = c.loop-n.n in
+    let n = c.loop-card.n in
     let first = c.in-Some.ensures in
-    let sofar = c.loop-n.invariant in
-    elim c.if-n-run.branch [
-      | then-n-run w ↦
-          let value = tops_all run cards c.in-Some.first n first.0 first.1 sofar.0 (λ k d h. sofar.1 k d h ∙ c.is_among-with.ensures) (omega (arith, w.if-n-run.true, c.run_length-run.ensures)) in
-          record { value = w.count-is ∙ value; bound = omega (arith, w.count-is, sofar.0) }
-      | else-n-run+in-Some-top+then-not-is_alike w ↦
-          let ends = alike_ends run cards c.is_among-with.result n w.in-Some-top.card sofar w.in-Some-top.ensures c.in-Some.first first.0 first.1 c.is_among-with.ensures (sym w.is_alike.ensures ∙ w.if-not-is_alike.true) in
-          record { value = w.count-is ∙ ends.0; bound = omega (arith, w.count-is, ends.1) }
+    let sofar = c.loop-card.invariant in
+    elim c.match-top-2.branch [
+      | in_default-top-2 w ↦
+          w.count-is
+          ∙ alike_ends run cards c.is_among-with.result n w.in-Some-top.card sofar w.in-Some-top.ensures c.in-Some.first first.0 first.1 c.is_among-with.ensures
+          (λ e. other_when _ _ w.if-is_among-with.false (w.is_among.ensures ∙ e))
+      | in_default-top w ↦
+          let past = w.in_default-top.ensures in
+          w.count-is ∙ tops_all run cards c.in-Some.first n first.0 first.1 sofar.0 (λ k d h. sofar.1 k d h ∙ c.is_among-with.ensures) past
     ]
