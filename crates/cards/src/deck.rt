@@ -63,76 +63,7 @@ fn card_at(number: usize) -> Card
     }
 }
 
-impl Suit {
-    // The suit's number, from 0 for diamonds.
-    pub fn number(self) -> u8
-        ensures { result ≡ suit_number self }
-    {
-        match self {
-            Suit::Diamonds => 0,
-            Suit::Hearts => 1,
-            Suit::Spades => 2,
-            Suit::Clubs => 3,
-        }
-    }
-
-    // The suit of this number, if there is one.
-    pub fn from_number(number: u8) -> Option<Suit>
-        ensures { MatchOption result (4 ≤ number) (λ suit. suit_number suit ≡ number) }
-    {
-        match number {
-            0 => Some(Suit::Diamonds),
-            1 => Some(Suit::Hearts),
-            2 => Some(Suit::Spades),
-            3 => Some(Suit::Clubs),
-            _ => None,
-        }
-    }
-}
-
-impl Place {
-    // The place's number, from 0 for the seven.
-    pub fn number(self) -> u8
-        ensures { result ≡ place_number self }
-    {
-        self as u8
-    }
-
-    // The place of this number, if there is one.
-    pub fn from_number(number: u8) -> Option<Place>
-        ensures { MatchOption result (8 ≤ number) (λ place. place_number place ≡ number) }
-    {
-        match number {
-            0 => Some(Place::Seven),
-            1 => Some(Place::Eight),
-            2 => Some(Place::Nine),
-            3 => Some(Place::Queen),
-            4 => Some(Place::King),
-            5 => Some(Place::Ten),
-            6 => Some(Place::Ace),
-            7 => Some(Place::Jack),
-            _ => None,
-        }
-    }
-}
-
 impl Card {
-    // The card's number: 8 times its suit's and its place's.
-    pub fn number(self) -> u8
-        ensures { result ≡ card_number self }
-    {
-        8 * self.suit.number() + self.place.number()
-    }
-
-    // The card of this number, if there is one.
-    pub fn from_number(number: u8) -> Option<Card>
-        ensures { MatchOption result (32 ≤ number) (λ card. card_number card ≡ number) }
-    {
-        let suit = Suit::from_number(number / 8)?;
-        let place = Place::from_number(number % 8)?;
-        Some(Card { suit, place })
-    }
-
     // All cards in the order of their numbers.
     pub fn deck() -> [Card; 32]
         ensures { result ≡ map card_at (range_with_len 0 32) }
@@ -160,12 +91,7 @@ impl From<Suit> for u8 {
 
     // The suit's number, from 0 for diamonds.
     fn from(suit: Suit) -> u8 {
-        match suit {
-            Suit::Diamonds => 0,
-            Suit::Hearts => 1,
-            Suit::Spades => 2,
-            Suit::Clubs => 3,
-        }
+        suit as u8
     }
 }
 

@@ -1,6 +1,9 @@
 // Why something is refused.
-ghost use Rattle.std.specs.Prelude.{◌≡◌};
+ghost use Rattle.std.specs.Prelude.{◌≡◌, Some, decimal};
 ghost use Rattle.cards.specs.Refusals.{refusal_number};
+
+use std::error::Error;
+use std::fmt;
 
 // The reasons in the order in which they are tested.
 #[derive(Clone, Copy, Debug, PartialEq, Eq, Drop)]
@@ -33,12 +36,12 @@ pub enum Refusal {
     NoSuchEntry,
 }
 
-impl Refusal {
+impl From<Refusal> for u8 {
+    ghost from_gives = { λ refusal number. number ≡ refusal_number refusal };
+
     // The number that is answered in place of 0.
-    pub fn number(self) -> u8
-        ensures { result ≡ refusal_number self }
-    {
-        match self {
+    fn from(refusal: Refusal) -> u8 {
+        match refusal {
             Refusal::NoSuchRole => 1,
             Refusal::NoSuchSeat => 1,
             Refusal::DealIsSettled => 2,
@@ -69,11 +72,14 @@ impl Refusal {
     }
 }
 
-impl From<Refusal> for u8 {
-    ghost from_gives = { λ refusal number. number ≡ refusal_number refusal };
+// A refusal is printed as its number.
+impl fmt::Display for Refusal {
+    ghost output = { λ refusal. Some (decimal (refusal_number refusal)) };
 
-    // The number that is answered in place of 0.
-    fn from(refusal: Refusal) -> u8 {
-        refusal.number()
+    fn fmt<W: fmt::Write>(&self, f: &mut fmt::Formatter<W>) -> fmt::Result {
+        let number = u8::from(*self);
+        write!(f, "{number}")
     }
 }
+
+impl Error for Refusal {}

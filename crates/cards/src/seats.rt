@@ -13,25 +13,6 @@ pub enum Seat {
     Rearhand,
 }
 
-impl Seat {
-    pub fn number(self) -> u8
-        ensures { result ≡ seat_number self }
-    {
-        self as u8
-    }
-
-    pub fn from_number(number: u8) -> Option<Seat>
-        ensures { MatchOption result (3 ≤ number) (λ seat. seat_number seat ≡ number) }
-    {
-        match number {
-            0 => Some(Seat::Forehand),
-            1 => Some(Seat::Middlehand),
-            2 => Some(Seat::Rearhand),
-            _ => None,
-        }
-    }
-}
-
 impl From<Seat> for u8 {
     ghost from_gives = { λ seat number. number ≡ seat_number seat };
 

@@ -47,7 +47,7 @@ fn with_three() -> [Card; 12] {
 
 // What a game counts with those twelve cards, the declarer's eyes and tricks given.
 fn points(game: Game, hand: bool, level: Level, bid: u16, eyes: u8, tricks: u8) -> Option<i32> {
-    let bid = Bid::new(bid)?;
+    let bid = Bid::try_from(bid).ok()?;
     let finished = Finished {
         hand,
         level,
@@ -66,11 +66,11 @@ fn points(game: Game, hand: bool, level: Level, bid: u16, eyes: u8, tricks: u8) 
 
 #[test]
 fn a_trick_of_diamonds_in_each_kind_of_game(rt: HostRuntime) {
-    assert_eq!(rt; taker(Null, diamonds()), 1);
-    assert_eq!(rt; taker(Grand, diamonds()), 2);
+    assert_eq!(rt; taker(&Null, diamonds()), 1);
+    assert_eq!(rt; taker(&Grand, diamonds()), 2);
     assert_eq!(rt;
         taker(
-            SuitGame {
+            &SuitGame {
                 trump: Suit::Diamonds,
             },
             diamonds(),
@@ -87,10 +87,10 @@ fn a_card_that_does_not_follow_takes_nothing(rt: HostRuntime) {
         card(Suit::Diamonds, Place::Ace),
         card(Suit::Clubs, Place::Ace),
     ];
-    assert_eq!(rt; taker(Grand, trick), 0);
+    assert_eq!(rt; taker(&Grand, trick), 0);
     assert_eq!(rt;
         taker(
-            SuitGame {
+            &SuitGame {
                 trump: Suit::Diamonds,
             },
             trick,
@@ -138,5 +138,5 @@ fn bids_are_the_values_of_games(rt: HostRuntime) {
     assert!(rt; !is_bid_value(17));
     assert!(rt; !is_bid_value(19));
     assert!(rt; !is_bid_value(0));
-    assert!(rt; Bid::new(265).is_none());
+    assert!(rt; Bid::try_from(265).is_err());
 }

@@ -12,16 +12,16 @@ fn the_club_jack_is_the_last_card(rt: HostRuntime) {
         suit: Suit::Clubs,
         place: Place::Jack,
     };
-    assert_eq!(rt; jack.number(), 31);
+    assert_eq!(rt; u8::from(jack), 31);
     assert_eq!(rt; jack.eyes().0, 2);
-    assert!(rt; Card::from_number(32).is_none());
+    assert!(rt; Card::try_from(32).is_err());
 }
 
 #[test]
 fn the_eyes_of_a_pack_make_120(rt: HostRuntime) -> Result<(), Fail> {
     let mut eyes = 0u16;
     for number in 0..32u8 {
-        let card = Card::from_number(number).ok_or("no card")?;
+        let card = Card::try_from(number).ok().ok_or("no card")?;
         eyes = eyes.saturating_add(u16::from(card.eyes().0));
     }
     assert_eq!(rt; eyes, 120);
