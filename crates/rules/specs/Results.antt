@@ -7,6 +7,7 @@ use Rattle.cards.specs.declared.units.GamePoints.{GamePoints}
 use Rattle.cards.specs.Seats.{seat_number}
 use Rattle.worth.specs.declared.bids.Bid.{Bid}
 use Rattle.worth.specs.declared.finished.Finished.{Finished}
+use Rattle.worth.specs.Rated.{Worth}
 use Rattle.worth.specs.BidValues.{is_bid}
 use Rattle.worth.specs.Tops.{tops_of}
 use Rattle.rules.specs.declared.deals.Announcement.{Announcement}
@@ -16,11 +17,6 @@ use Rattle.rules.specs.declared.deals.Deal.{Deal}
 use Rattle.rules.specs.declared.deals.Taken.{Taken}
 use Rattle.rules.specs.Moments.{is_at}
 use Rattle.rules.specs.Piles.{pile_in, is_declarers, is_defenders, eyes_where}
-
--- What a rated kind adds to its meaning: the run of trumps that tops are counted on, and what a finished game counts.
-pub record Worth : Type 0 where
-  pub run : List Card
-  pub counts : ℕ → Finished → ℤ
 
 -- The bid of a value, if it is a bid value.
 abbrev pub bid_when : (value : ℕ) (is : Bool) → is_bid value ≡ is → Option Bid

@@ -12,7 +12,7 @@ use super::piles::gather;
 use cards::deck::Card;
 use cards::seats::Seat;
 use kinds::kind::Kind;
-use kinds::strengths::strongest;
+use kinds::tricks::taker;
 
 // The next seat in the order forehand, middlehand, rearhand, forehand.
 pub fn seat_after(seat: Seat) -> Seat
@@ -101,7 +101,7 @@ impl Common {
 fn taking_seat<K: Kind>(kind: &K, leader: Seat, a: Card, b: Card, c: Card) -> Seat
     ensures { result ≡ taker_of (K.Kind.meaning kind.now) leader a b c }
 {
-    match strongest(kind, [a, b, c]) {
+    match taker(kind, [a, b, c]) {
         0 => leader,
         1 => seat_after(leader),
         _ => seat_after(seat_after(leader)),

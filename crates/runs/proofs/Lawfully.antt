@@ -8,7 +8,8 @@ use Rattle.worth.specs.BidValues.{is_bid}
 use Rattle.rules.specs.declared.deals.Deal.{Deal}
 use Rattle.rules.specs.Dealing.{start}
 use Rattle.rules.specs.Piles.{is_declarers, is_defenders, eyes_where}
-use Rattle.rules.specs.Results.{Worth, bid_at, points_of, result_of}
+use Rattle.worth.specs.Rated.{Worth}
+use Rattle.rules.specs.Results.{bid_at, points_of, result_of}
 use Rattle.runs.specs.declared.requests.Request.{Request}
 use Rattle.runs.specs.Law.{EveryRun, EveryResult, Continues, Counts, Lawful, twelve_in}
 use Rattle.runs.specs.Reach.{requests_of}

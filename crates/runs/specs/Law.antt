@@ -17,7 +17,8 @@ use Rattle.runs.specs.Fairness.{Alike, got}
 use Rattle.rules.specs.Piles.{pile_in, is_declarers, is_defenders, eyes_where, hand_and_skat}
 use Rattle.runs.specs.Progress.{OneActs}
 use Rattle.runs.specs.Reckoning.{Made, Play', highest_bid, declarer_in, contract_in, plays_in, tricks_in, open_in, taken_in, leader_in, last_in, is_settled_in, pile_of, InTurn, OneTakes}
-use Rattle.rules.specs.Results.{Worth, is_settled, bid_at, points_of, result_of}
+use Rattle.worth.specs.Rated.{Worth}
+use Rattle.rules.specs.Results.{is_settled, bid_at, points_of, result_of}
 use Rattle.runs.specs.Reach.{ended_by, requests_of, OneKind}
 use Rattle.runs.specs.Runs.{ended, accepted}
 

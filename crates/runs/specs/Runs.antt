@@ -12,7 +12,8 @@ use Rattle.runs.specs.declared.requests.Request.{Request}
 use Rattle.runs.specs.declared.requests.Request.TheVariants.{Act, Sight, Permitted, Result}
 use Rattle.rules.specs.Permitted.{permitted_by}
 use Rattle.rules.specs.Refusing.{refusal_by, is_accepted}
-use Rattle.rules.specs.Results.{Worth, result_of}
+use Rattle.worth.specs.Rated.{Worth}
+use Rattle.rules.specs.Results.{result_of}
 use Rattle.rules.specs.Sight.{seen_by}
 pub use Rattle.rules.specs.Steps.{after_call}
 

@@ -3,7 +3,7 @@ use Rattle.std.proofs.Common.{◌≡◌, ℕ, ◌+◌, ◌<◌, ◌≤◌, List,
 use Rattle.std.proofs.lemmas.List.{take_more, take_more_set, take_all, map_push, map-set, get_or-map, set-get_or, length-map}
 use Rattle.kinds.specs.Meanings.{Meaning}
 use Rattle.rules.specs.declared.deals.Deal.{Deal}
-use Rattle.rules.specs.Results.{Worth}
+use Rattle.worth.specs.Rated.{Worth}
 use Rattle.runs.specs.declared.requests.Answer.{Answer}
 use Rattle.runs.specs.Runs.{after, answer, answers, ended}
 use Rattle.runs.proofs.Lawfully.{ended_more, answers_more}

@@ -12,7 +12,8 @@ use Rattle.worth.specs.Tops.{tops_of}
 use Rattle.rules.specs.declared.deals.Announcement.{Announcement}
 use Rattle.rules.specs.declared.deals.Contract.TheVariants.{Announced}
 use Rattle.rules.specs.declared.deals.Deal.{Deal}
-use Rattle.rules.specs.Results.{Worth, bid_at, bid_when, points_of}
+use Rattle.worth.specs.Rated.{Worth}
+use Rattle.rules.specs.Results.{bid_at, bid_when, points_of}
 use Rattle.views.specs.Results.{declarer_eyes, defender_eyes, finished_in, points_in}
 
 -- there is one bid of a value: all proofs that it is a bid value are alike

@@ -6,7 +6,8 @@ use Rattle.worth.specs.declared.finished.Finished.{Finished}
 use Rattle.rules.specs.declared.deals.Announcement.{Announcement}
 use Rattle.rules.specs.declared.deals.Deal.{Deal}
 use Rattle.rules.specs.Piles.{eyes_where, is_declarers, is_defenders, pile_in}
-use Rattle.rules.specs.Results.{Worth, bid_at, finished_with, points_of}
+use Rattle.worth.specs.Rated.{Worth}
+use Rattle.rules.specs.Results.{bid_at, finished_with, points_of}
 
 -- The eyes of the declarer, with the skat or the put cards.
 abbrev pub declarer_eyes : Deal → ℕ
