@@ -1,8 +1,7 @@
 -- The bytes of a list and the list of bytes, for `read`.
-use Rattle.std.proofs.Common.{◌≡◌, ℕ, ◌+◌, ◌-◌, ◌*◌, ◌/◌, ◌%◌, ◌<◌, ◌≤◌, Bool, true, false, not, eqb, ltb, leb, List, [], ◌∷◌, ◌++◌, map, length, get_or, take, drop, Some, None, Ok, count_by, Result, sym, refl, ap, ◌∙◌, subst, arith}
-use native.Mathlib.Nat.{sub-zero}
+use Rattle.std.proofs.Common.{◌≡◌, ℕ, ◌+◌, ◌-◌, ◌*◌, ◌/◌, ◌%◌, ◌<◌, ◌≤◌, Bool, true, false, not, eqb, ltb, leb, List, [], ◌∷◌, ◌++◌, map, length, get_or, drop, Some, None, Ok, count_by, Result, sym, refl, ap, ◌∙◌, subst, arith}
 use Rattle.std.specs.List.{flat_map}
-use Rattle.std.proofs.lemmas.List.{drop_at, get_or-drop, length-drop, length-take-le}
+use Rattle.std.proofs.lemmas.List.{drop_at, get_or-drop, length-drop}
 use Rattle.std.proofs.lemmas.Bool.{and_from, eqb-true, eqb-false, le-ltb, le-leb, eq-eqb, ne_eqb}
 use Rattle.std.proofs.lemmas.List.Sums.{count_by-le-length}
 use Rattle.cards.specs.declared.refusals.Refusal.{Refusal}
@@ -118,47 +117,44 @@ file_same p q r s good fine e = (
 )
 
 -- a file whose header stands, read from its offset on
-module _ (file : List ℕ) (small : (i : ℕ) → get_or file i 0 < 256) (ok : topmost (header_refusals file) ≡ None) (part : List ℕ) (offset count : ℕ) (is : part ≡ drop offset file) (from : offset ≡ offset_field file) (n : count ≡ rows_field file) where
+module _ (file : List ℕ) (ok : topmost (header_refusals file) ≡ None) (part : List ℕ) (offset : ℕ) (is : part ≡ drop offset file) (from : offset ≡ offset_field file) where
   in_part : raw_rows part ≡ rows_in file
   in_part = ap raw_rows (is ∙ ap (λ k. drop k file) from)
-
-  part_rows : length part / 4 ≡ count
-  part_rows =
-      let facts = header_facts file ok in
-      let long : length part ≡ length file - offset = ap length is ∙ length-drop offset file in
-      omega (arith, facts.offset, facts.rows, facts.whole)
 
   pub part_refused : are_raw_rows (raw_rows part) ≡ false → file_refusal file ≡ Some RowNotAllowed
   part_refused bad = rows_refused file ok (ap are_raw_rows (sym in_part) ∙ bad)
 
-  module _ (rows : List Row) (room : length rows ≡ 48) (read : (raw_rows part ≡ map raw_of (take (length part / 4) rows)) × (are_rows (take (length part / 4) rows) ≡ true)) (stated : ℕ) {right : Bool} (told : right ≡ eqb (games (take (count - 0) rows)) stated) (said : stated ≡ games_field file) where
-    rows_are : rows_in file ≡ map raw_of (take count rows)
-    rows_are = sym in_part ∙ (read.0 ∙ ap (λ k. map raw_of (take k rows)) part_rows)
+  module _ (rows : List Row) (long : length rows ≡ length part / 4) where
+    rows_count : length rows ≡ rows_field file
+    rows_count =
+        let facts = header_facts file ok in
+        let rest : length part ≡ length file - offset = ap length is ∙ length-drop offset file in
+        omega (arith, facts.offset, facts.rows, facts.whole)
 
-    rows_good : are_rows (take count rows) ≡ true
-    rows_good = subst (λ k. are_rows (take k rows) ≡ true) part_rows read.1
+    pub rows_few : length rows ≤ 48
+    rows_few = let facts = header_facts file ok in omega (arith, facts.few, rows_count)
+
+  module _ (rows : List Row) (raws : raw_rows part ≡ map raw_of rows) (fine : are_rows rows ≡ true) (stated : ℕ) {right : Bool} (told : right ≡ eqb (games rows) stated) (said : stated ≡ games_field file) where
+    rows_are : rows_in file ≡ map raw_of rows
+    rows_are = sym in_part ∙ raws
 
     good : are_raw_rows (rows_in file) ≡ true
-    good = ap are_raw_rows rows_are ∙ raws_good (take count rows) rows_good
+    good = ap are_raw_rows rows_are ∙ raws_good rows fine
 
-    raw_played : count_by is_raw_game (rows_in file) ≡ games (take (count - 0) rows)
-    raw_played = ap (count_by is_raw_game) rows_are ∙ (raw_games (take count rows) ∙ ap (λ k. games (take k rows)) (sym (sub-zero count)))
+    raw_played : count_by is_raw_game (rows_in file) ≡ games rows
+    raw_played = ap (count_by is_raw_game) rows_are ∙ raw_games rows
 
     pub games_differ : right ≡ false → file_refusal file ≡ Some WrongGamesCount
     games_differ wrong =
         let differ = eqb-false _ _ (sym told ∙ wrong) in
         games_refused file ok good (ne_eqb (games_field file) (count_by is_raw_game (rows_in file)) (λ e. differ (sym raw_played ∙ (sym e ∙ sym said))))
 
-    pub list_read : (places : Places) → places_number places ≡ get_or file 4 0 → right ≡ true → (file_refusal file ≡ None) × (count ≤ 48) × (are_rows (take count rows) ≡ true) × (file_of places (take count rows) ≡ file)
-    list_read places seats yes-games =
+    pub list_read : ((i : ℕ) → get_or file i 0 < 256) → length rows ≡ length part / 4 → (places : Places) → places_number places ≡ get_or file 4 0 → right ≡ true → (file_refusal file ≡ None) × (file_of places rows ≡ file)
+    list_read small long places seats yes-games =
         let facts = header_facts file ok in
-        let few : count ≤ 48 = omega (arith, facts.few) in
-        let same = eqb-true _ _ (sym told ∙ yes-games) in
-        let played : games (take count rows) ≡ games_field file = ap (λ k. games (take k rows)) (sym (sub-zero count)) ∙ (same ∙ said) in (
+        let same = eqb-true _ _ (sym told ∙ yes-games) in (
           accepted file ok good (eq-eqb (games_field file) (count_by is_raw_game (rows_in file)) (sym said ∙ (sym same ∙ sym raw_played))),
-          few,
-          rows_good,
-          read_is file small facts places (take count rows) seats (length-take-le count rows (omega arith) ∙ n) rows_are played,
+          read_is file small facts places rows seats (rows_count rows long) rows_are (same ∙ said),
         )
 
 -- what was written is read back

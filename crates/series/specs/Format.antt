@@ -1,14 +1,15 @@
 -- The file of a list: which bytes it has, and why other bytes are refused.
-use Rattle.std.specs.Prelude.{◌≡◌, ℕ, suc, ◌+◌, ◌-◌, ◌*◌, ◌/◌, ◌%◌, ◌<◌, ◌≤◌, Bool, true, cond, not, ◌&&◌, List, [], ◌∷◌, ◌++◌, length, take, drop, ℤ, pos, negsuc, Some, None, Ok, Err, codes, count_by, Option, Result, ◌==◌, nat_le, nat_lt, slice_index}
+use Rattle.std.specs.Prelude.{◌≡◌, ℕ, suc, ◌+◌, ◌-◌, ◌*◌, ◌/◌, ◌%◌, ◌<◌, ◌≤◌, Bool, true, false, cond, not, ◌&&◌, List, [], ◌∷◌, ◌++◌, map, length, drop, ℤ, pos, negsuc, Some, None, Ok, Err, codes, count_by, Option, Result, ◌==◌, nat_le, nat_lt, slice_index}
 use Rattle.std.specs.List.{flat_map}
 use Rattle.cards.specs.declared.refusals.Refusal.{Refusal}
 use Rattle.cards.specs.declared.refusals.Refusal.TheVariants.{BufferTooShort, FileTooShort, WrongTag, NotAList, RowNotAllowed, WrongGamesCount}
 use Rattle.cards.specs.Refusals.{topmost}
+use Rattle.arrayvec.specs.ArrayVec.{ArrayVec}
 use Rattle.series.specs.declared.rows.Places.{Places}
 use Rattle.series.specs.declared.reading.Header.{Header}
-use Rattle.series.specs.declared.reading.Listed.{Listed}
+use Rattle.series.specs.declared.lists.Listed.{Listed}
 use Rattle.series.specs.declared.rows.Row.{Row}
-use Rattle.series.specs.Rows.{places_number, is_places, is_role, goes_with, role_number, points_of, is_game, are_rows, most_rows}
+use Rattle.series.specs.Rows.{places_number, is_places, is_role, goes_with, role_number, points_of, is_game, is_row, are_rows, most_rows}
 
 -- A number in two and in four bytes, low byte first.
 abbrev pub in_two : ℕ → List ℕ
@@ -152,18 +153,24 @@ abbrev pub HeaderRead : List ℕ → Result Header Refusal → Type 0
 HeaderRead file (Ok head) =
     (topmost (header_refusals file) ≡ None)
     × (places_number head.places ≡ slice_index file 4)
-    × (head.rows ≡ rows_field file)
     × (head.games ≡ games_field file)
     × (head.offset ≡ offset_field file)
 HeaderRead file (Err refusal) = topmost (header_refusals file) ≡ Some refusal
 
+-- What reading a row's four bytes gives.
+abbrev pub RowRead : List ℕ → Result Row Refusal → Type 0
+RowRead bytes (Ok row) = (raw_at bytes 0 ≡ raw_of row) × (is_row row ≡ true)
+RowRead bytes (Err refusal) = (refusal ≡ RowNotAllowed) × (is_raw_row (raw_at bytes 0) ≡ false)
+
+-- What reading rows gives, four bytes each.
+abbrev pub RowsRead : List ℕ → Result (ArrayVec Row) Refusal → Type 0
+RowsRead part (Ok rows) = (raw_rows part ≡ map raw_of rows.items) × (length rows.items ≡ length part / 4) × (are_rows rows.items ≡ true)
+RowsRead part (Err refusal) = (refusal ≡ RowNotAllowed) × (are_raw_rows (raw_rows part) ≡ false)
+
 -- What reading a file gives: the list whose file it is, or why it is none.
 abbrev pub FileRead : List ℕ → Result Listed Refusal → Type 0
 FileRead file (Ok listed) =
-    (file_refusal file ≡ None)
-    × (listed.count ≤ most_rows)
-    × (are_rows (take listed.count listed.rows) ≡ true)
-    × (file_of listed.places (take listed.count listed.rows) ≡ file)
+    (file_refusal file ≡ None) × (file_of listed.places listed.rows.items ≡ file)
 FileRead file (Err refusal) = file_refusal file ≡ Some refusal
 
 -- A file read into a list: it has rows that may stand on one and this file, or it is refused and the list is as it was.

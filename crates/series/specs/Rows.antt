@@ -2,6 +2,7 @@
 use Rattle.std.specs.Prelude.{◌≡◌, ℕ, Bool, true, false, cond, not, ◌&&◌, ◌||◌, List, [], ◌∷◌, ◌++◌, ℤ, pos, Some, None, Ok, Err, Option, Result, ◌==◌, int_le, nat_le}
 use Rattle.cards.specs.declared.refusals.Refusal.{Refusal}
 use Rattle.cards.specs.declared.refusals.Refusal.TheVariants.{NoSuchRole, ListFull, PointsNotAllowed}
+use Rattle.cards.specs.declared.seats.Seat.{Seat}
 use Rattle.cards.specs.Refusals.{topmost}
 use Rattle.cards.specs.Seats.{seat_number}
 use Rattle.cards.specs.Units.{is_game_value}
@@ -67,6 +68,21 @@ row_refusal role points = topmost ((NoSuchRole, not (is_role role)) ∷ ((Points
 abbrev pub entry_refusal : ℕ → ℕ → ℤ → Option Refusal
 entry_refusal rows role points =
     topmost ((NoSuchRole, not (is_role role)) ∷ ((ListFull, nat_le most_rows rows) ∷ ((PointsNotAllowed, not (goes_with role points)) ∷ [])))
+
+-- The role of a declarer, or of none.
+abbrev pub declarer_number : Option Seat → ℕ
+declarer_number None = 255
+declarer_number (Some declarer) = seat_number declarer
+
+-- What a role names: a declarer or none, or it is no role.
+abbrev pub DeclarerNamed : ℕ → Result (Option Seat) Refusal → Type 0
+DeclarerNamed role (Ok declarer) = declarer_number declarer ≡ role
+DeclarerNamed role (Err refusal) = (refusal ≡ NoSuchRole) × (is_role role ≡ false)
+
+-- What making a row of a declarer or none gives.
+abbrev pub RowOf : Option Seat → ℤ → Result Row Refusal → Type 0
+RowOf declarer points (Ok row) = IsRowOf (declarer_number declarer) points row × (is_row row ≡ true)
+RowOf declarer points (Err refusal) = (refusal ≡ PointsNotAllowed) × (goes_with (declarer_number declarer) points ≡ false)
 
 -- What making a row gives: the row, which may stand on a list, or why there is none.
 abbrev pub RowMade : ℕ → ℤ → Result Row Refusal → Type 0

@@ -1,18 +1,27 @@
 // Opening a list, entering rows on it and closing it.
 ghost use Rattle.std.specs.Prelude.{◌≡◌, ◌<◌, true, [], ◌∷◌, ◌++◌, vec_len, MatchResult};
 ghost use Rattle.cards.specs.Refusals.{answered};
+ghost use Rattle.series.specs.declared.lists.NotOpened.TheVariants.{OutOfMemory};
 ghost use Rattle.series.specs.Rows.{places_number, is_row, entry_refusal, Entered};
 ghost use Rattle.series.specs.Opening.{Opened};
 ghost use Rattle.series.specs.Totals.{totals_answer};
 
 use super::lists::{BadPlaces, ClosedList, NotOpened, OpenList, Sheet};
-use super::rows::{Places, Row};
+use super::rows::{Places, Row, declarer_of};
 use super::totals::Totals;
 use cards::refusals::Refusal;
 use cards::units::GamePoints;
-use std::alloc::Global;
+use std::alloc::{AllocError, Global};
 
 const MOST_ROWS: usize = 48;
+
+impl From<AllocError> for NotOpened {
+    ghost from_gives = { λ _ why. why ≡ OutOfMemory };
+
+    fn from(_: AllocError) -> NotOpened {
+        NotOpened::OutOfMemory
+    }
+}
 
 impl Sheet {
     // Adds a row at the end, for which there is room.
@@ -30,15 +39,12 @@ impl OpenList {
     pub fn open(heap: Global, places: u8) -> Result<OpenList, NotOpened>
         ensures { Opened places result }
     {
-        let Ok(rows) = Vec::with_capacity(heap, MOST_ROWS) else {
-            return Err(NotOpened::OutOfMemory);
-        };
-        match Places::from_number(places) {
-            Some(places) => Ok(OpenList {
+        let rows = Vec::with_capacity(heap, MOST_ROWS)?;
+        match Places::try_from(places) {
+            Ok(places) => Ok(OpenList {
                 sheet: Sheet { places, rows },
             }),
-            None => {
-                let refusal = Refusal::NotAList;
+            Err(refusal) => {
                 let places = Places::Three;
                 let list = OpenList {
                     sheet: Sheet { places, rows },
@@ -54,13 +60,11 @@ impl OpenList {
         ensures places { self.new.sheet.places ≡ self.old.sheet.places }
         ensures rows { MatchResult result (λ _. Entered role points.0 self.old.sheet.rows.items self.new.sheet.rows.items) (λ _. self.new.sheet.rows.items ≡ self.old.sheet.rows.items) }
     {
-        if role > 2 && role != 255 {
-            return Err(Refusal::NoSuchRole);
-        }
+        let declarer = declarer_of(role)?;
         if self.sheet.rows.len() >= MOST_ROWS {
             return Err(Refusal::ListFull);
         }
-        let row = Row::new(role, points)?;
+        let row = Row::of(declarer, points)?;
         self.sheet.add(row);
         Ok(())
     }

@@ -1,8 +1,10 @@
 // Lists: an open one takes rows, a closed one is written and read. Neither is copied, so that
 // a row cannot be entered on a list once it is closed.
 ghost use Rattle.std.specs.Prelude.{◌≡◌, ◌≤◌, true, vec_len, vec_capacity};
+ghost use Rattle.arrayvec.specs.ArrayVec.{array_vec_len};
 ghost use Rattle.series.specs.Rows.{are_rows};
 
+use arrayvec::ArrayVec;
 use super::rows::{Places, Row};
 use cards::refusals::Refusal;
 
@@ -13,6 +15,15 @@ pub(super) struct Sheet {
     pub(super) rows: Vec<Row>,
     ghost few: { vec_len rows ≤ 48 },
     ghost room: { 48 ≤ vec_capacity rows },
+    ghost valid: { are_rows rows.items ≡ true },
+}
+
+// A list as it is read from a file, before it stands in the place of another.
+#[derive(Drop)]
+pub(super) struct Listed {
+    pub(super) places: Places,
+    pub(super) rows: ArrayVec<Row, 48>,
+    ghost few: { array_vec_len rows ≤ 48 },
     ghost valid: { are_rows rows.items ≡ true },
 }
 

@@ -1,10 +1,11 @@
 // Reading the file of a list.
 ghost use Rattle.std.specs.Prelude.{◌≡◌, ◌+◌, ◌*◌, ◌/◌, ◌<◌, ◌≤◌, true, false, map, length, take, drop, Some, None, MatchOption, ◌==◌};
 ghost use Rattle.cards.specs.Refusals.{answered};
-ghost use Rattle.series.specs.Format.{games as games_of, two_at, four_at, is_tag, is_raw_row, are_raw_rows, raw_at, raw_of, raw_rows, HeaderRead, FileRead, file_refusal, ListRead, ReadBack};
+ghost use Rattle.series.specs.Format.{games as games_of, two_at, four_at, is_tag, HeaderRead, RowRead, RowsRead, FileRead, file_refusal, ListRead, ReadBack};
 ghost use Rattle.series.specs.Rows.{is_row, are_rows};
 
-use super::lists::{ClosedList, Sheet};
+use arrayvec::ArrayVec;
+use super::lists::{ClosedList, Listed, Sheet};
 use super::rows::{Places, Row};
 use super::writing::count_games;
 use cards::refusals::Refusal;
@@ -14,17 +15,8 @@ use cards::units::GamePoints;
 #[derive(Clone, Copy, Drop)]
 struct Header {
     places: Places,
-    rows: usize,
     games: usize,
     offset: usize,
-}
-
-// A list as it is read: its rows are the first so many of these.
-#[derive(Clone, Copy, Drop)]
-struct Listed {
-    places: Places,
-    rows: [Row; 48],
-    count: usize,
 }
 
 // The number in two bytes, low byte first.
@@ -60,9 +52,7 @@ fn read_header(file: &[u8]) -> Result<Header, Refusal>
     if !is_tag(file) {
         return Err(Refusal::WrongTag);
     }
-    let Some(places) = Places::from_number(file[4]) else {
-        return Err(Refusal::NotAList);
-    };
+    let places = Places::try_from(file[4])?;
     let rows = two_at(file, 6);
     let games = two_at(file, 8);
     let offset = two_at(file, 10);
@@ -77,56 +67,37 @@ fn read_header(file: &[u8]) -> Result<Header, Refusal>
     }
     Ok(Header {
         places,
-        rows,
         games,
         offset,
     })
 }
 
-// The row in the four bytes from here on, if they hold one.
-fn read_row(part: &[u8], at: usize) -> Option<Row>
-    requires { at + 3 < length part.now }
-    ensures { MatchOption result (is_raw_row (raw_at part.now at) ≡ false) (λ row. (raw_at part.now at ≡ raw_of row) × (is_row row ≡ true)) }
+// The row in these four bytes.
+fn read_row(bytes: [u8; 4]) -> Result<Row, Refusal>
+    ensures { RowRead bytes result }
 {
-    if part[at + 1] != 0 {
-        return None;
+    let [role, second, low, high] = bytes;
+    if second != 0 {
+        return Err(Refusal::RowNotAllowed);
     }
-    let points = i16::from_le_bytes([part[at + 2], part[at + 3]]);
-    match Row::new(part[at], GamePoints(points as i32)) {
-        Ok(row) => Some(row),
-        Err(_) => None,
+    let points = i16::from_le_bytes([low, high]);
+    match Row::new(role, GamePoints(points as i32)) {
+        Ok(row) => Ok(row),
+        Err(_) => Err(Refusal::RowNotAllowed),
     }
 }
 
-// The rows in this part of a file, four bytes each, if all of them are rows. Those behind the
-// last are passed in.
-fn read_rows(part: &[u8]) -> Option<[Row; 48]>
+// The rows in this part of a file, four bytes each.
+fn read_rows(part: &[u8]) -> Result<ArrayVec<Row, 48>, Refusal>
     requires { length part.now ≤ 192 }
-    ensures { MatchOption result (are_raw_rows (raw_rows part.now) ≡ false) (λ rows. (raw_rows part.now ≡ map raw_of (take (length part.now / 4) rows)) × (are_rows (take (length part.now / 4) rows) ≡ true)) }
+    ensures { RowsRead part.now result }
 {
-    let mut rows = [Row::PassedIn; 48];
-    for i in 0..part.len() / 4 {
-        let Some(row) = read_row(part, 4 * i) else {
-            return None;
-        };
-        rows[i] = row;
+    let (rows_bytes, _) = part.as_chunks::<4>();
+    let mut rows = ArrayVec::new();
+    for bytes in rows_bytes {
+        rows.push(read_row(*bytes)?);
     }
-    Some(rows)
-}
-
-impl Sheet {
-    // Puts these places and rows in the place of its own.
-    fn refill(&mut self, places: Places, rows: &[Row])
-        requires { (length rows.now ≤ 48) × (are_rows rows.now ≡ true) }
-        ensures places { self.new.places ≡ places }
-        ensures rows { self.new.rows.items ≡ rows.now }
-    {
-        self.places = places;
-        self.rows.clear();
-        let Ok(()) = self.rows.extend_from_slice(rows) else {
-            unreachable()
-        };
-    }
+    Ok(rows)
 }
 
 // The part of a file from the offset of its rows on.
@@ -145,41 +116,41 @@ fn games_agree(rows: &[Row], games: usize) -> bool
     count_games(rows) == games
 }
 
-// The places and rows of the list whose file this is.
+// The list whose file this is.
 fn read_list(file: &[u8]) -> Result<Listed, Refusal>
     ensures { FileRead file.now result }
 {
-    let Header {
-        places,
-        rows: count,
-        games,
-        offset,
-    } = read_header(file)?;
-    let Some(rows) = read_rows(rows_part(file, offset)) else {
-        return Err(Refusal::RowNotAllowed);
-    };
-    if !games_agree(&rows[0..count], games) {
+    let header = read_header(file)?;
+    let rows = read_rows(rows_part(file, header.offset))?;
+    if !games_agree(rows.as_slice(), header.games) {
         return Err(Refusal::WrongGamesCount);
     }
     Ok(Listed {
-        places,
+        places: header.places,
         rows,
-        count,
     })
 }
 
 impl Sheet {
+    // Puts the list that was read in the place of its own.
+    fn refill(&mut self, listed: &Listed)
+        ensures places { self.new.places ≡ listed.now.places }
+        ensures rows { self.new.rows.items ≡ listed.now.rows.items }
+    {
+        self.places = listed.places;
+        self.rows.clear();
+        self.rows
+            .extend_from_slice(listed.rows.as_slice())
+            .unwrap();
+    }
+
     // Puts the list whose file this is in the place of its own.
     fn reread(&mut self, file: &[u8]) -> Result<(), Refusal>
         ensures answer { result ≡ answered (file_refusal file.now) tt }
         ensures list { ListRead file.now result self.old.places self.old.rows.items self.new.places self.new.rows.items }
     {
-        let Listed {
-            places,
-            rows,
-            count,
-        } = read_list(file)?;
-        self.refill(places, &rows[0..count]);
+        let listed = read_list(file)?;
+        self.refill(&listed);
         Ok(())
     }
 }

@@ -1,7 +1,8 @@
 // The rows of a list, and how many places it has.
-ghost use Rattle.std.specs.Prelude.{◌≡◌, false, MatchOption};
+ghost use Rattle.std.specs.Prelude.{◌≡◌, false, MatchResult};
+ghost use Rattle.cards.specs.declared.refusals.Refusal.TheVariants.{NotAList};
 ghost use Rattle.cards.specs.Units.{is_game_value};
-ghost use Rattle.series.specs.Rows.{places_number, is_places, RowMade};
+ghost use Rattle.series.specs.Rows.{places_number, is_places, DeclarerNamed, RowMade, RowOf};
 
 use cards::refusals::Refusal;
 use cards::seats::Seat;
@@ -15,53 +16,69 @@ pub enum Places {
 }
 
 // A row of a list: a deal that was passed in, or a game with its declarer and what it counts.
-#[derive(Clone, Copy, PartialEq, Eq, Drop)]
+#[derive(Clone, Copy, Default, PartialEq, Eq, Drop)]
 pub enum Row {
+    #[default]
     PassedIn,
     Game(Seat, GamePoints),
 }
 
-impl Places {
-    pub fn number(self) -> u8
-        ensures { result ≡ places_number self }
-    {
-        match self {
+impl From<Places> for u8 {
+    ghost from_gives = { λ places number. number ≡ places_number places };
+
+    // The number of places.
+    fn from(places: Places) -> u8 {
+        match places {
             Places::Three => 3,
             Places::Four => 4,
         }
     }
+}
+
+impl TryFrom<u8> for Places {
+    type Error = Refusal;
+
+    ghost try_from_gives = { λ number result. MatchResult result (λ places. places_number places ≡ number) (λ refusal. (refusal ≡ NotAList) × (is_places number ≡ false)) };
 
     // The places of this number, if a list can have so many.
-    pub fn from_number(number: u8) -> Option<Places>
-        ensures { MatchOption result (is_places number ≡ false) (λ places. places_number places ≡ number) }
-    {
+    fn try_from(number: u8) -> Result<Places, Refusal> {
         match number {
-            3 => Some(Places::Three),
-            4 => Some(Places::Four),
-            _ => None,
+            3 => Ok(Places::Three),
+            4 => Ok(Places::Four),
+            _ => Err(Refusal::NotAList),
         }
     }
 }
 
+// The declarer that a role names; there is none where the deal was passed in, whose role is 255.
+pub(super) fn declarer_of(role: u8) -> Result<Option<Seat>, Refusal>
+    ensures { DeclarerNamed role result }
+{
+    match role {
+        255 => Ok(None),
+        _ => match Seat::try_from(role) {
+            Ok(declarer) => Ok(Some(declarer)),
+            Err(_) => Err(Refusal::NoSuchRole),
+        },
+    }
+}
+
 impl Row {
-    // The row of this role and these points; 255 is the role where the deal was passed in.
+    // The row of this role and these points.
     pub fn new(role: u8, points: GamePoints) -> Result<Row, Refusal>
         ensures { RowMade role points.0 result }
     {
-        if role == 255 {
-            return if points.0 == 0 {
-                Ok(Row::PassedIn)
-            } else {
-                Err(Refusal::PointsNotAllowed)
-            };
-        }
-        let Some(declarer) = Seat::from_number(role) else {
-            return Err(Refusal::NoSuchRole);
-        };
-        if is_game_value(points) {
-            Ok(Row::Game(declarer, points))
-        } else {
-            Err(Refusal::PointsNotAllowed)
+        Row::of(declarer_of(role)?, points)
+    }
+
+    // The row of this declarer, or of a deal that was passed in, and these points.
+    pub(super) fn of(declarer: Option<Seat>, points: GamePoints) -> Result<Row, Refusal>
+        ensures { RowOf declarer points.0 result }
+    {
+        match declarer {
+            None if points.0 == 0 => Ok(Row::PassedIn),
+            Some(declarer) if is_game_value(points) => Ok(Row::Game(declarer, points)),
+            _ => Err(Refusal::PointsNotAllowed),
         }
     }
 }

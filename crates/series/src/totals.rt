@@ -27,41 +27,66 @@ struct Tally {
     defended: u32,
 }
 
-// The place that has this seat in row i: the dealer's is i modulo places, and the seats are
-// the next three.
-fn place_of(places: Places, i: usize, seat: Seat) -> usize
-    ensures { result ≡ place_in (places_number places) i seat }
-{
-    let n = places.number() as usize;
-    (i % n + 1 + seat.number() as usize) % n
+// A row where it stands: on a list of so many places, with so many rows before it.
+#[derive(Clone, Copy, Drop)]
+struct RowAt {
+    places: Places,
+    i: usize,
+    row: Row,
+    ghost early: { i < 48 },
+    ghost valid: { is_row row ≡ true },
 }
 
-// Whether this place has a seat in row i.
-fn sits(places: Places, place: usize, i: usize) -> bool
-    ensures { result ≡ sits_in (places_number places) place i }
-{
-    place_of(places, i, Seat::Forehand) == place
-        || place_of(places, i, Seat::Middlehand) == place
-        || place_of(places, i, Seat::Rearhand) == place
-}
-
-// Whether this place is the declarer of row i.
-fn declares(places: Places, place: usize, i: usize, row: Row) -> bool
-    ensures { result ≡ declares_in (places_number places) place i row }
-{
-    match row {
-        Row::PassedIn => false,
-        Row::Game(declarer, _) => place_of(places, i, declarer) == place,
+impl RowAt {
+    // The place that has this seat: the dealer's is i modulo places, and the seats are the
+    // next three.
+    fn place_of(self, seat: Seat) -> usize
+        ensures { result ≡ place_in (places_number self.places) self.i seat }
+    {
+        let n = u8::from(self.places) as usize;
+        (self.i % n + 1 + u8::from(seat) as usize) % n
     }
-}
 
-// Whether this place is a defender of row i.
-fn defends(places: Places, place: usize, i: usize, row: Row) -> bool
-    ensures { result ≡ defends_in (places_number places) place i row }
-{
-    match row {
-        Row::PassedIn => false,
-        Row::Game(declarer, _) => sits(places, place, i) && place_of(places, i, declarer) != place,
+    // Whether this place has a seat.
+    fn sits(self, place: usize) -> bool
+        ensures { result ≡ sits_in (places_number self.places) place self.i }
+    {
+        self.place_of(Seat::Forehand) == place
+            || self.place_of(Seat::Middlehand) == place
+            || self.place_of(Seat::Rearhand) == place
+    }
+
+    // Whether this place is the declarer.
+    fn declares(self, place: usize) -> bool
+        ensures { result ≡ declares_in (places_number self.places) place self.i self.row }
+    {
+        match self.row {
+            Row::PassedIn => false,
+            Row::Game(declarer, _) => self.place_of(declarer) == place,
+        }
+    }
+
+    // Whether this place is a defender.
+    fn defends(self, place: usize) -> bool
+        ensures { result ≡ defends_in (places_number self.places) place self.i self.row }
+    {
+        match self.row {
+            Row::PassedIn => false,
+            Row::Game(declarer, _) => self.sits(place) && self.place_of(declarer) != place,
+        }
+    }
+
+    // What the row counts for this place.
+    fn points_for(self, place: usize) -> GamePoints
+        ensures value { result.0 ≡ counts_for (places_number self.places) place self.i self.row }
+        ensures low { neg_ℤ (pos 540) ≤ℤ result.0 }
+        ensures high { result.0 ≤ℤ pos 264 }
+    {
+        if self.declares(place) {
+            self.row.points()
+        } else {
+            GamePoints(0)
+        }
     }
 }
 
@@ -91,92 +116,73 @@ impl Row {
     }
 }
 
-// What row i counts for this place.
-fn points_for(places: Places, place: usize, i: usize, row: Row) -> GamePoints
-    requires { is_row row ≡ true }
-    ensures value { result.0 ≡ counts_for (places_number places) place i row }
-    ensures low { neg_ℤ (pos 540) ≤ℤ result.0 }
-    ensures high { result.0 ≤ℤ pos 264 }
-{
-    if declares(places, place, i, row) {
-        row.points()
-    } else {
-        GamePoints(0)
+impl Tally {
+    // The tally with a row counted too, of which there were so many before as it has before it.
+    fn with_row(self, at: RowAt, place: usize) -> Tally
+        requires points { (neg_ℤ (pos (540 * at.i)) ≤ℤ self.points.0) × (self.points.0 ≤ℤ pos (264 * at.i)) }
+        requires games { (self.won ≤ at.i) × ((self.lost ≤ at.i) × (self.defended ≤ at.i)) }
+        ensures points { result.points.0 ≡ self.points.0 +ℤ counts_for (places_number at.places) place at.i at.row }
+        ensures won { result.won ≡ self.won + (if wins_in (places_number at.places) place at.i at.row then 1 else 0) }
+        ensures lost { result.lost ≡ self.lost + (if loses_in (places_number at.places) place at.i at.row then 1 else 0) }
+        ensures defended { result.defended ≡ self.defended + (if defends_loss_in (places_number at.places) place at.i at.row then 1 else 0) }
+        ensures low { neg_ℤ (pos (540 * (at.i + 1))) ≤ℤ result.points.0 }
+        ensures high { result.points.0 ≤ℤ pos (264 * (at.i + 1)) }
+    {
+        let declared = at.declares(place);
+        let defended = at.defends(place);
+        Tally {
+            points: GamePoints(self.points.0 + at.points_for(place).0),
+            won: self.won + (declared & at.row.is_won()) as u32,
+            lost: self.lost + (declared & at.row.is_lost()) as u32,
+            defended: self.defended + (defended & at.row.is_lost()) as u32,
+        }
     }
-}
 
-// The tally with row i counted too.
-fn with_row(tally: Tally, places: Places, place: usize, i: usize, row: Row) -> Tally
-    requires row { (i < 48) × (is_row row ≡ true) }
-    requires points { (neg_ℤ (pos (540 * i)) ≤ℤ tally.points.0) × (tally.points.0 ≤ℤ pos (264 * i)) }
-    requires games { (tally.won ≤ i) × ((tally.lost ≤ i) × (tally.defended ≤ i)) }
-    ensures points { result.points.0 ≡ tally.points.0 +ℤ counts_for (places_number places) place i row }
-    ensures won { result.won ≡ tally.won + (if wins_in (places_number places) place i row then 1 else 0) }
-    ensures lost { result.lost ≡ tally.lost + (if loses_in (places_number places) place i row then 1 else 0) }
-    ensures defended { result.defended ≡ tally.defended + (if defends_loss_in (places_number places) place i row then 1 else 0) }
-    ensures low { neg_ℤ (pos (540 * (i + 1))) ≤ℤ result.points.0 }
-    ensures high { result.points.0 ≤ℤ pos (264 * (i + 1)) }
-{
-    let declared = declares(places, place, i, row);
-    let defended = defends(places, place, i, row);
-    Tally {
-        points: GamePoints(tally.points.0 + points_for(places, place, i, row).0),
-        won: tally.won + (declared & row.is_won()) as u32,
-        lost: tally.lost + (declared & row.is_lost()) as u32,
-        defended: tally.defended + (defended & row.is_lost()) as u32,
+    // Game points, 50 for each game won, less 50 for each game lost, and 40 for each loss
+    // defended.
+    fn rating(self) -> Rating
+        requires points { (neg_ℤ (pos (540 * 48)) ≤ℤ self.points.0) × (self.points.0 ≤ℤ pos (264 * 48)) }
+        requires games { (self.won ≤ 48) × ((self.lost ≤ 48) × (self.defended ≤ 48)) }
+        ensures { result.0 ≡ rating_of self.points.0 self.won self.lost self.defended }
+    {
+        let plus = 50 * self.won + 40 * self.defended;
+        let minus = 50 * self.lost;
+        Rating(self.points.0 + plus as i32 - minus as i32)
     }
-}
-
-// Game points, 50 for each game won, less 50 for each game lost, and 40 for each loss defended.
-fn rating(points: GamePoints, won: u32, lost: u32, defended: u32) -> Rating
-    requires { (neg_ℤ (pos (540 * 48)) ≤ℤ points.0) × ((points.0 ≤ℤ pos (264 * 48)) × ((won ≤ 48) × ((lost ≤ 48) × (defended ≤ 48)))) }
-    ensures { result.0 ≡ rating_of points.0 won lost defended }
-{
-    let plus = 50 * won + 40 * defended;
-    let minus = 50 * lost;
-    Rating(points.0 + plus as i32 - minus as i32)
-}
-
-// What these rows count for a place.
-fn tally_of(places: Places, place: usize, rows: &[Row]) -> Tally
-    requires { (length rows.now ≤ 48) × (are_rows rows.now ≡ true) }
-    ensures { IsTally (places_number places) place rows.now result }
-{
-    let mut tally = Tally {
-        points: GamePoints(0),
-        won: 0,
-        lost: 0,
-        defended: 0,
-    };
-    for i in 0..rows.len() {
-        tally = with_row(tally, places, place, i, rows[i]);
-    }
-    tally
-}
-
-// What a list of these rows counts for a place, if it has that place.
-fn totals_of(places: Places, place: u8, rows: &[Row]) -> Result<Totals, Refusal>
-    requires { (length rows.now ≤ 48) × (are_rows rows.now ≡ true) }
-    ensures { result ≡ totals_answer (places_number places) place rows.now }
-{
-    if place >= places.number() {
-        return Err(Refusal::NoSuchEntry);
-    }
-    let tally = tally_of(places, place as usize, rows);
-    Ok(Totals {
-        points: tally.points,
-        won: tally.won,
-        lost: tally.lost,
-        rating: rating(tally.points, tally.won, tally.lost, tally.defended),
-    })
 }
 
 impl Sheet {
-    // What the list counts for a place.
+    // What the rows count for a place.
+    fn tally(&self, place: usize) -> Tally
+        ensures { IsTally (places_number self.now.places) place self.now.rows.items result }
+    {
+        let mut tally = Tally {
+            points: GamePoints(0),
+            won: 0,
+            lost: 0,
+            defended: 0,
+        };
+        let places = self.places;
+        for (i, &row) in self.rows.iter().enumerate() {
+            tally = tally.with_row(RowAt { places, i, row }, place);
+        }
+        tally
+    }
+
+    // What the list counts for a place, if it has that place.
     pub(super) fn totals(&self, place: u8) -> Result<Totals, Refusal>
         ensures { result ≡ totals_answer (places_number self.now.places) place self.now.rows.items }
     {
-        totals_of(self.places, place, self.rows.as_slice())
+        if place >= self.places.into() {
+            return Err(Refusal::NoSuchEntry);
+        }
+        let tally = self.tally(place as usize);
+        Ok(Totals {
+            points: tally.points,
+            won: tally.won,
+            lost: tally.lost,
+            rating: tally.rating(),
+        })
     }
 }
 

@@ -15,7 +15,7 @@ impl Row {
     {
         match self {
             Row::PassedIn => 255,
-            Row::Game(declarer, _) => declarer.number(),
+            Row::Game(declarer, _) => declarer.into(),
         }
     }
 
@@ -32,16 +32,9 @@ impl Row {
 
 // How many of the rows are games.
 pub(super) fn count_games(rows: &[Row]) -> usize
-    ensures value { result ≡ games rows.now }
-    ensures bound { result ≤ length rows.now }
+    ensures { result ≡ games rows.now }
 {
-    let mut count = 0;
-    for i in 0..rows.len() {
-        if rows[i].is_game() {
-            count += 1;
-        }
-    }
-    count
+    rows.iter().filter(|row| row.is_game()).count()
 }
 
 // A row's four bytes: role, zero, points.
@@ -53,53 +46,6 @@ fn row_bytes(row: Row) -> [u8; 4]
     [row.role(), 0, low, high]
 }
 
-// The first 16 bytes: tag, places, zero, rows, games, offset of the first row, whole length.
-fn header_bytes(places: Places, rows: usize, games: usize) -> [u8; 16]
-    requires { (rows ≤ 48) × (games ≤ 48) }
-    ensures { result ≡ header (places_number places) rows games }
-{
-    let [a, b] = (rows as u16).to_le_bytes();
-    let [c, d] = (games as u16).to_le_bytes();
-    let [e, f, g, h] = (16 + 4 * rows as u32).to_le_bytes();
-    [
-        b'S',
-        b'K',
-        b'L',
-        b'1',
-        places.number(),
-        0,
-        a,
-        b,
-        c,
-        d,
-        16,
-        0,
-        e,
-        f,
-        g,
-        h,
-    ]
-}
-
-// Writes a row's bytes.
-fn write_row(row: Row, buffer: &mut [u8])
-    requires { (length buffer.old ≡ 4) × (is_row row ≡ true) }
-    ensures { buffer.new ≡ row_bytes row }
-{
-    let bytes = row_bytes(row);
-    buffer.copy_from_slice(&bytes);
-}
-
-// Writes the rows' bytes into the front of the buffer.
-fn write_rows(rows: &[Row], buffer: &mut [u8])
-    requires { (4 * length rows.now ≤ length buffer.old) × (are_rows rows.now ≡ true) }
-    ensures { buffer.new ≡ flat_map row_bytes rows.now ++ drop (4 * length rows.now) buffer.old }
-{
-    for i in 0..rows.len() {
-        write_row(rows[i], &mut buffer[4 * i..4 * i + 4]);
-    }
-}
-
 impl Sheet {
     // How many bytes the list's file has.
     fn file_length(&self) -> usize
@@ -108,15 +54,52 @@ impl Sheet {
         16 + 4 * self.rows.len()
     }
 
+    // The first 16 bytes: tag, places, zero, rows, games, offset of the first row, whole length.
+    fn header(&self) -> [u8; 16]
+        ensures { result ≡ header (places_number self.now.places) (length self.now.rows.items) (games self.now.rows.items) }
+    {
+        let rows = self.rows.as_slice();
+        let [a, b] = (rows.len() as u16).to_le_bytes();
+        let [c, d] = (count_games(rows) as u16).to_le_bytes();
+        let [e, f, g, h] = (16 + 4 * rows.len() as u32).to_le_bytes();
+        [
+            b'S',
+            b'K',
+            b'L',
+            b'1',
+            self.places.into(),
+            0,
+            a,
+            b,
+            c,
+            d,
+            16,
+            0,
+            e,
+            f,
+            g,
+            h,
+        ]
+    }
+
+    // Writes the rows' bytes into the front of the buffer.
+    fn write_rows(&self, buffer: &mut [u8])
+        requires { 4 * length self.now.rows.items ≤ length buffer.old }
+        ensures { buffer.new ≡ flat_map row_bytes self.now.rows.items ++ drop (4 * length self.now.rows.items) buffer.old }
+    {
+        for (i, &row) in self.rows.iter().enumerate() {
+            buffer[4 * i..4 * i + 4].copy_from_slice(&row_bytes(row));
+        }
+    }
+
     // Writes the list's file into the front of the buffer, where it fits.
     fn fill(&self, buffer: &mut [u8])
         requires { length (file_of self.now.places self.now.rows.items) ≤ length buffer.old }
         ensures { buffer.new ≡ written (file_of self.now.places self.now.rows.items) buffer.old }
     {
-        let rows = self.rows.as_slice();
-        let header = header_bytes(self.places, rows.len(), count_games(rows));
+        let header = self.header();
         buffer[0..16].copy_from_slice(&header);
-        write_rows(rows, &mut buffer[16..]);
+        self.write_rows(&mut buffer[16..]);
     }
 }
 

@@ -1,7 +1,7 @@
-use Rattle.std.proofs.Common.{◌≡◌, ℕ, List, [], ◌∷◌, get_or}
-use Rattle.series.specs.Format.{in_two, in_four, file_length, header}
+use Rattle.std.proofs.Common.{◌≡◌, ℕ, List, [], ◌∷◌, length, get_or, vec_items, ap, ◌∙◌}
+use Rattle.series.specs.Format.{games, in_two, in_four, file_length, header}
 use Rattle.series.specs.Rows.{places_number}
-use Rattle.series.proofs.writing.header_bytes.Goals as goal
+use Rattle.series.proofs.lists.Sheet.header.Goals as goal
 
 -- the bytes, with those of each field taken from a list of them
 abbrev fields : ℕ → List ℕ → List ℕ → List ℕ → List ℕ
@@ -14,4 +14,10 @@ fields_are places rows games n p q r h i j k = cc
 
 pub returns : goal.returns
 returns c =
-    fields_are (places_number c.args.places) c.args.rows c.args.games _ _ _ _ c.number.ensures c.to_le_bytes.ensures c.to_le_bytes-2.ensures c.to_le_bytes-3.ensures
+    let sheet = c.args.self.now in
+    let rows = vec_items sheet.rows in
+    let is = c.as_slice-rows.ensures.value in
+    fields_are (places_number sheet.places) (length rows) (games rows) _ _ _ _ c.into.ensures
+    (c.to_le_bytes.ensures ∙ ap (λ rs. in_two (length rs)) is)
+    (c.to_le_bytes-2.ensures ∙ ap in_two (c.count_games.ensures ∙ ap games is))
+    (c.to_le_bytes-3.ensures ∙ ap (λ rs. in_four (file_length (length rs))) is)

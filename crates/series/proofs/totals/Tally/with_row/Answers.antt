@@ -1,7 +1,7 @@
 use Rattle.std.proofs.Common.{◌≡◌, ℕ, ◌+◌, Bool, true, false, cond, ◌&&◌, refl, ap, ◌∙◌, arith}
 use mir.Val.{bool_byte}
 use Rattle.std.proofs.lemmas.Int.{ints}
-use Rattle.series.proofs.totals.with_row.Goals as goal
+use Rattle.series.proofs.totals.Tally.with_row.Goals as goal
 
 byte : (b : Bool) → bool_byte b ≡ cond b 1 0
 byte true = refl
