@@ -1,12 +1,12 @@
 -- A tally that grows row by row, for `tally_of`.
 use Rattle.std.proofs.Common.{◌≡◌, ℕ, zero, suc, ◌+◌, ◌*◌, ◌<◌, ◌≤◌, Bool, true, false, cond, List, [], ◌∷◌, length, get_or, drop, pos, ◌+ℤ◌, neg_ℤ, ◌≤ℤ◌, arith}
 use Rattle.std.proofs.lemmas.Int.{ints}
-use Rattle.std.proofs.lemmas.List.{at_drop_more, at_drop_all}
+use Rattle.std.proofs.lemmas.List.{at_drop_more}
 use Rattle.std.proofs.lemmas.Bool.{and_parts}
 use Rattle.series.specs.declared.rows.Row.{Row}
 use Rattle.series.specs.declared.totals.Tally.{Tally}
 use Rattle.series.specs.Rows.{is_row, are_rows}
-use Rattle.series.specs.Totals.{sum_over, number_of, counts_for, wins_in, loses_in, defends_loss_in, game_points, games_won, games_lost, losses_defended, IsTally}
+use Rattle.series.specs.Totals.{sum_over, number_of, counts_for, wins_in, loses_in, defends_loss_in, game_points, games_won, games_lost, losses_defended}
 
 pub row_at : (rows : List Row) (i : ℕ) (d : Row) → are_rows rows ≡ true → i < length rows → is_row (get_or rows i d) ≡ true
 row_at [] i d all lt = absurd (omega arith)
@@ -28,17 +28,6 @@ bit_low true = omega arith
 bit_low false = omega arith
 
 module _ (n place : ℕ) (rows : List Row) where
-  pub counted_none : Counted n place rows 0 (record { points = record { 0 = pos 0 }; won = 0; lost = 0; defended = 0 })
-  counted_none = record {
-    points = omega (arith, ints);
-    won = omega arith;
-    lost = omega arith;
-    defended = omega arith;
-    low = omega (arith, ints);
-    high = omega (arith, ints);
-    few = (omega arith, omega arith, omega arith);
-  }
-
   -- what is left after row i, where some test counted it or not
   left : (test : ℕ → Row → Bool) (i : ℕ) (d : Row) → i < length rows → number_of test i (drop i rows) ≡ cond (test i (get_or rows i d)) 1 0 + number_of test (i + 1) (drop (i + 1) rows)
   left test i d lt = at_drop_more (number_of test i) rows i d lt
@@ -68,17 +57,3 @@ module _ (n place : ℕ) (rows : List Row) where
             omega (arith, sofar.few.2, bit_low (defends_loss_in n place i row)),
           );
         }
-
-  pub counted_all : (i : ℕ) (tally : Tally) → Counted n place rows i tally → length rows ≤ i → i ≤ 48 → IsTally n place rows tally
-  counted_all i tally all end few =
-      let none : (test : ℕ → Row → Bool) → number_of test i (drop i rows) ≡ 0 = λ test. at_drop_all (number_of test i) rows i end in
-      let nothing : sum_over (counts_for n place) i (drop i rows) ≡ pos 0 = at_drop_all (sum_over (counts_for n place) i) rows i end in
-      record {
-        points = omega (arith, ints, all.points);
-        won = omega (arith, all.won, none (wins_in n place));
-        lost = omega (arith, all.lost, none (loses_in n place));
-        defended = omega (arith, all.defended, none (defends_loss_in n place));
-        low = omega (arith, ints, all.low);
-        high = omega (arith, ints, all.high);
-        few = (omega (arith, all.few.0), omega (arith, all.few.1), omega (arith, all.few.2));
-      }

@@ -1,23 +1,12 @@
 -- Rows as a file has them, for `read_row` and `read_rows`.
-use Rattle.std.proofs.Common.{◌≡◌, ℕ, zero, suc, ◌+◌, ◌/◌, ◌<◌, Bool, true, false, not, ◌&&◌, List, [], ◌∷◌, ◌++◌, map, length, get_or, take, Some, sym, refl, ap, ◌∙◌, arith}
+use Rattle.std.proofs.Common.{◌≡◌, ℕ, zero, suc, ◌+◌, ◌/◌, ◌<◌, true, false, List, [], ◌∷◌, ◌++◌, map, length, get_or, take, sym, refl, ap, ◌∙◌, arith}
 use Rattle.std.specs.Simd.{first_chunks}
 use Rattle.std.proofs.lemmas.List.{length-append, map_push, take_more}
 use Rattle.std.proofs.lemmas.Bool.{and_left, and_right}
-use Rattle.cards.specs.declared.refusals.Refusal.{Refusal}
-use Rattle.cards.specs.declared.refusals.Refusal.TheVariants.{NoSuchRole, PointsNotAllowed}
-use Rattle.cards.specs.Refusals.{topmost}
 use Rattle.series.specs.declared.rows.Row.{Row}
-use Rattle.series.specs.Rows.{is_role, goes_with, is_row, are_rows, row_refusal}
+use Rattle.series.specs.Rows.{is_row, are_rows}
 use Rattle.series.specs.Format.{RawRow, is_raw_row, are_raw_rows, raw_rows, raw_from, raw_at, raw_of}
 use Rattle.series.proofs.Pushes.{are_rows-push}
-
-never : (a b c : Bool) (refusal : Refusal) → topmost ((NoSuchRole, not a) ∷ ((PointsNotAllowed, not b) ∷ [])) ≡ Some refusal → (a && b && c) ≡ false
-never true true c refusal e = let z : ◌≡◌ {A = ℕ} 0 1 = cc in absurd (omega arith)
-never true false c refusal e = refl
-never false b c refusal e = refl
-
-pub raw_bad : (raw : RawRow) (refusal : Refusal) → row_refusal raw.role raw.points ≡ Some refusal → is_raw_row raw ≡ false
-raw_bad raw refusal e = never (is_role raw.role) (goes_with raw.role raw.points) _ refusal e
 
 pub raw_short : (bytes : List ℕ) → length bytes < 4 → raw_rows bytes ≡ []
 raw_short [] lt = refl

@@ -1,13 +1,13 @@
 -- The totals of a place as text.
-use Rattle.std.specs.Prelude.{ℕ, List, ◌++◌, ℤ, codes, decimal}
+use Rattle.std.specs.Prelude.{ℕ, List, ◌++◌, codes, decimal}
 use Rattle.std.specs.Fmt.{signed_decimal}
 use Rattle.series.specs.declared.totals.Totals.{Totals}
 
--- Five numbers with a space between each two.
-abbrev pub five_text : ℕ → ℤ → ℕ → ℕ → ℤ → List ℕ
-five_text a b c d e =
-    decimal a ++ (codes " " ++ (signed_decimal b ++ (codes " " ++ (decimal c ++ (codes " " ++ (decimal d ++ (codes " " ++ signed_decimal e)))))))
+-- Game points, games won, games lost and rating, with a space between each two.
+abbrev pub totals_numbers : Totals → List ℕ
+totals_numbers totals =
+    signed_decimal totals.points.0 ++ (codes " " ++ (decimal totals.won ++ (codes " " ++ (decimal totals.lost ++ (codes " " ++ signed_decimal totals.rating.0)))))
 
 -- A place's number, game points, games won, games lost and rating.
 abbrev pub totals_text : ℕ → Totals → List ℕ
-totals_text place totals = five_text place totals.points.0 totals.won totals.lost totals.rating.0
+totals_text place totals = decimal place ++ (codes " " ++ totals_numbers totals)

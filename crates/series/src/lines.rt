@@ -9,9 +9,5 @@ use std::alloc::{AllocError, Global};
 pub fn totals_line(heap: Global, place: u8, totals: Totals) -> Result<String, AllocError>
     ensures { IfOk result (λ line. string_bytes line ≡ totals_text place totals) }
 {
-    let points = totals.points.0;
-    let won = totals.won;
-    let lost = totals.lost;
-    let rating = totals.rating.0;
-    format!(in heap; "{place} {points} {won} {lost} {rating}")
+    format!(in heap; "{place} {totals}")
 }

@@ -4,8 +4,8 @@ ghost use Rattle.std.specs.Prelude.{◌≡◌, ◌≤◌, true, vec_len, vec_cap
 ghost use Rattle.arrayvec.specs.ArrayVec.{array_vec_len};
 ghost use Rattle.series.specs.Rows.{are_rows};
 
-use arrayvec::ArrayVec;
 use super::rows::{Places, Row};
+use arrayvec::ArrayVec;
 use cards::refusals::Refusal;
 
 // What every list has: its places and at most 48 rows, with room for as many.

@@ -4,10 +4,10 @@ ghost use Rattle.cards.specs.Refusals.{answered};
 ghost use Rattle.series.specs.Format.{games as games_of, two_at, four_at, is_tag, HeaderRead, RowRead, RowsRead, FileRead, file_refusal, ListRead, ReadBack};
 ghost use Rattle.series.specs.Rows.{is_row, are_rows};
 
-use arrayvec::ArrayVec;
 use super::lists::{ClosedList, Listed, Sheet};
 use super::rows::{Places, Row};
 use super::writing::count_games;
+use arrayvec::ArrayVec;
 use cards::refusals::Refusal;
 use cards::units::GamePoints;
 
@@ -35,11 +35,12 @@ fn four_at(bytes: &[u8], i: usize) -> usize
     u32::from_le_bytes([bytes[i], bytes[i + 1], bytes[i + 2], bytes[i + 3]]) as usize
 }
 
+// Whether a file begins with the tag.
 fn is_tag(file: &[u8]) -> bool
     requires { 16 ≤ length file.now }
     ensures { result ≡ is_tag file.now }
 {
-    file[0] == b'S' && file[1] == b'K' && file[2] == b'L' && file[3] == b'1'
+    matches!(file, [b'S', b'K', b'L', b'1', ..])
 }
 
 // Reads the first 16 bytes, or says why they are no header of these bytes.
@@ -77,13 +78,10 @@ fn read_row(bytes: [u8; 4]) -> Result<Row, Refusal>
     ensures { RowRead bytes result }
 {
     let [role, second, low, high] = bytes;
-    if second != 0 {
-        return Err(Refusal::RowNotAllowed);
-    }
     let points = i16::from_le_bytes([low, high]);
     match Row::new(role, GamePoints(points as i32)) {
-        Ok(row) => Ok(row),
-        Err(_) => Err(Refusal::RowNotAllowed),
+        Ok(row) if second == 0 => Ok(row),
+        _ => Err(Refusal::RowNotAllowed),
     }
 }
 
@@ -139,9 +137,7 @@ impl Sheet {
     {
         self.places = listed.places;
         self.rows.clear();
-        self.rows
-            .extend_from_slice(listed.rows.as_slice())
-            .unwrap();
+        self.rows.extend_from_slice(listed.rows.as_slice()).unwrap();
     }
 
     // Puts the list whose file this is in the place of its own.

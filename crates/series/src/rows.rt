@@ -56,10 +56,9 @@ pub(super) fn declarer_of(role: u8) -> Result<Option<Seat>, Refusal>
 {
     match role {
         255 => Ok(None),
-        _ => match Seat::try_from(role) {
-            Ok(declarer) => Ok(Some(declarer)),
-            Err(_) => Err(Refusal::NoSuchRole),
-        },
+        _ => Seat::try_from(role)
+            .map(Some)
+            .map_err(|_| Refusal::NoSuchRole),
     }
 }
 

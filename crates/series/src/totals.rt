@@ -1,5 +1,6 @@
 // What a list counts for a place.
-ghost use Rattle.std.specs.Prelude.{◌≡◌, ◌+◌, ◌*◌, ◌%◌, ◌<◌, ◌≤◌, true, length, pos, ◌+ℤ◌, neg_ℤ, ◌≤ℤ◌, if◌then◌else◌};
+ghost use Rattle.std.specs.Prelude.{◌≡◌, ◌+◌, ◌*◌, ◌%◌, ◌<◌, ◌≤◌, true, length, pos, ◌+ℤ◌, neg_ℤ, ◌≤ℤ◌, Some, if◌then◌else◌};
+ghost use Rattle.series.specs.Lines.{totals_numbers};
 ghost use Rattle.series.specs.Rows.{places_number, points_of, is_row, are_rows};
 ghost use Rattle.series.specs.Totals.{place_of as place_in, sits as sits_in, declares as declares_in, defends as defends_in, is_won, is_lost, counts_for, wins_in, loses_in, defends_loss_in, IsTally, rating_of, totals_answer};
 
@@ -8,6 +9,8 @@ use super::rows::{Places, Row};
 use cards::refusals::Refusal;
 use cards::seats::Seat;
 use cards::units::{GamePoints, Rating};
+use std::fmt;
+use std::fmt::Display;
 
 // A place's game points, games won, games lost and rating.
 #[derive(Clone, Copy, Drop)]
@@ -16,6 +19,21 @@ pub struct Totals {
     pub won: u32,
     pub lost: u32,
     pub rating: Rating,
+}
+
+impl Display for Totals {
+    ghost output = { λ totals. Some (totals_numbers totals) };
+
+    // Game points, games won, games lost and rating, with a space between each two.
+    fn fmt<W: fmt::Write>(&self, f: &mut fmt::Formatter<W>) -> fmt::Result {
+        let Totals {
+            points,
+            won,
+            lost,
+            rating,
+        } = *self;
+        write!(f, "{} {won} {lost} {}", points.0, rating.0)
+    }
 }
 
 // What the rating is made of.
