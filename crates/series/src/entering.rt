@@ -4,11 +4,9 @@ ghost use Rattle.cards.specs.Refusals.{answered};
 ghost use Rattle.series.specs.declared.lists.NotOpened.TheVariants.{OutOfMemory};
 ghost use Rattle.series.specs.Rows.{places_number, is_row, entry_refusal, Entered};
 ghost use Rattle.series.specs.Opening.{Opened};
-ghost use Rattle.series.specs.Totals.{totals_answer};
 
-use super::lists::{BadPlaces, ClosedList, NotOpened, OpenList, Sheet};
+use super::lists::{BadPlaces, ClosedList, List, NotOpened, OpenList, Sheet};
 use super::rows::{Places, Row, declarer_of};
-use super::totals::Totals;
 use cards::refusals::Refusal;
 use cards::units::GamePoints;
 use std::alloc::{AllocError, Global};
@@ -41,14 +39,10 @@ impl OpenList {
     {
         let rows = Vec::with_capacity(heap, MOST_ROWS)?;
         match Places::try_from(places) {
-            Ok(places) => Ok(OpenList {
-                sheet: Sheet { places, rows },
-            }),
+            Ok(places) => Ok(List::of(Sheet { places, rows })),
             Err(refusal) => {
                 let places = Places::Three;
-                let list = OpenList {
-                    sheet: Sheet { places, rows },
-                };
+                let list = List::of(Sheet { places, rows });
                 Err(NotOpened::Refused(BadPlaces { refusal, list }))
             }
         }
@@ -73,27 +67,6 @@ impl OpenList {
     pub fn close(self) -> ClosedList
         ensures { result.sheet ≡ self.sheet }
     {
-        let OpenList { sheet } = self;
-        ClosedList { sheet }
-    }
-
-    pub fn places(&self) -> Places
-        ensures { result ≡ self.now.sheet.places }
-    {
-        self.sheet.places
-    }
-
-    // The rows so far, in order.
-    pub fn rows(&self) -> &[Row]
-        ensures { result.now ≡ self.now.sheet.rows.items }
-    {
-        self.sheet.rows.as_slice()
-    }
-
-    // What the list counts so far for a place.
-    pub fn totals(&self, place: u8) -> Result<Totals, Refusal>
-        ensures { result ≡ totals_answer (places_number self.now.sheet.places) place self.now.sheet.rows.items }
-    {
-        self.sheet.totals(place)
+        List::of(self.sheet)
     }
 }

@@ -7,6 +7,7 @@ ghost use Rattle.series.specs.Rows.{are_rows};
 use super::rows::{Places, Row};
 use arrayvec::ArrayVec;
 use cards::refusals::Refusal;
+use std::marker::PhantomData;
 
 // What every list has: its places and at most 48 rows, with room for as many.
 #[derive(Drop)]
@@ -27,16 +28,35 @@ pub(super) struct Listed {
     ghost valid: { are_rows rows.items ≡ true },
 }
 
-// A list that takes rows.
+// A list that is open takes rows.
 #[derive(Drop)]
-pub struct OpenList {
+pub struct Open;
+
+// A list that is closed takes no more rows, and has a file.
+#[derive(Drop)]
+pub struct Closed;
+
+// A list, open or closed.
+#[derive(Drop)]
+pub struct List<S> {
     pub(super) sheet: Sheet,
+    state: PhantomData<S>,
 }
 
-// A list that takes no more rows, and has a file.
-#[derive(Drop)]
-pub struct ClosedList {
-    pub(super) sheet: Sheet,
+pub type OpenList = List<Open>;
+
+pub type ClosedList = List<Closed>;
+
+impl<S> List<S> {
+    // The list of these places and rows.
+    pub(super) fn of(sheet: Sheet) -> List<S>
+        ensures { result.sheet ≡ sheet }
+    {
+        List {
+            sheet,
+            state: PhantomData,
+        }
+    }
 }
 
 // A refusal, with the empty list of three places that there is instead.

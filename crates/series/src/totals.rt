@@ -4,7 +4,7 @@ ghost use Rattle.series.specs.Lines.{totals_numbers};
 ghost use Rattle.series.specs.Rows.{places_number, points_of, is_row, are_rows};
 ghost use Rattle.series.specs.Totals.{place_of as place_in, sits as sits_in, declares as declares_in, defends as defends_in, is_won, is_lost, counts_for, wins_in, loses_in, defends_loss_in, IsTally, rating_of, totals_answer};
 
-use super::lists::{ClosedList, Sheet};
+use super::lists::{List, Sheet};
 use super::rows::{Places, Row};
 use cards::refusals::Refusal;
 use cards::seats::Seat;
@@ -204,7 +204,7 @@ impl Sheet {
     }
 }
 
-impl ClosedList {
+impl<S> List<S> {
     pub fn places(&self) -> Places
         ensures { result ≡ self.now.sheet.places }
     {

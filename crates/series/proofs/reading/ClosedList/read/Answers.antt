@@ -1,6 +1,6 @@
 use Rattle.std.proofs.Common.{vec_items}
 use Rattle.series.proofs.Filing.{read_back}
-use Rattle.series.proofs.lists.ClosedList.read.Goals as goal
+use Rattle.series.proofs.reading.ClosedList.read.Goals as goal
 
 pub returns : goal.returns
 returns c =
