@@ -1,17 +1,15 @@
 // Opening a list, entering rows on it and closing it.
-ghost use Rattle.std.specs.Prelude.{◌≡◌, ◌<◌, true, [], ◌∷◌, ◌++◌, vec_len, MatchResult};
+ghost use Rattle.std.specs.Prelude.{◌≡◌, ◌<◌, true, [], ◌∷◌, ◌++◌, vec_len, IfOk, MatchResult};
 ghost use Rattle.cards.specs.Refusals.{answered};
 ghost use Rattle.series.specs.declared.lists.NotOpened.TheVariants.{OutOfMemory};
 ghost use Rattle.series.specs.Rows.{places_number, is_row, entry_refusal, Entered};
-ghost use Rattle.series.specs.Opening.{Opened};
+ghost use Rattle.series.specs.Opening.{IsEmpty, Opened};
 
 use super::lists::{BadPlaces, ClosedList, List, NotOpened, OpenList, Sheet};
-use super::rows::{Places, Row, declarer_of};
+use super::rows::{MOST_ROWS, Places, Row, declarer_of};
 use cards::refusals::Refusal;
 use cards::units::GamePoints;
 use std::alloc::{AllocError, Global};
-
-const MOST_ROWS: usize = 48;
 
 impl From<AllocError> for NotOpened {
     ghost from_gives = { λ _ why. why ≡ OutOfMemory };
@@ -33,16 +31,22 @@ impl Sheet {
 }
 
 impl OpenList {
+    // An empty list of these places.
+    pub fn empty(heap: Global, places: Places) -> Result<OpenList, AllocError>
+        ensures { IfOk result (λ list. IsEmpty places list) }
+    {
+        let rows = Vec::with_capacity(heap, MOST_ROWS)?;
+        Ok(List::of(Sheet { places, rows }))
+    }
+
     // An empty list of so many places, or a refusal with an empty list of three.
     pub fn open(heap: Global, places: u8) -> Result<OpenList, NotOpened>
         ensures { Opened places result }
     {
-        let rows = Vec::with_capacity(heap, MOST_ROWS)?;
         match Places::try_from(places) {
-            Ok(places) => Ok(List::of(Sheet { places, rows })),
+            Ok(places) => Ok(OpenList::empty(heap, places)?),
             Err(refusal) => {
-                let places = Places::Three;
-                let list = List::of(Sheet { places, rows });
+                let list = OpenList::empty(heap, Places::Three)?;
                 Err(NotOpened::Refused(BadPlaces { refusal, list }))
             }
         }

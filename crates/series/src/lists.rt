@@ -4,7 +4,7 @@ ghost use Rattle.std.specs.Prelude.{◌≡◌, ◌≤◌, true, vec_len, vec_cap
 ghost use Rattle.arrayvec.specs.ArrayVec.{array_vec_len};
 ghost use Rattle.series.specs.Rows.{are_rows};
 
-use super::rows::{Places, Row};
+use super::rows::{MOST_ROWS, Places, Row};
 use arrayvec::ArrayVec;
 use cards::refusals::Refusal;
 use std::marker::PhantomData;
@@ -23,7 +23,7 @@ pub(super) struct Sheet {
 #[derive(Drop)]
 pub(super) struct Listed {
     pub(super) places: Places,
-    pub(super) rows: ArrayVec<Row, 48>,
+    pub(super) rows: ArrayVec<Row, MOST_ROWS>,
     ghost few: { array_vec_len rows ≤ 48 },
     ghost valid: { are_rows rows.items ≡ true },
 }

@@ -5,7 +5,7 @@ ghost use Rattle.series.specs.Format.{games as games_of, two_at, four_at, is_tag
 ghost use Rattle.series.specs.Rows.{is_row, are_rows};
 
 use super::lists::{ClosedList, Listed, Sheet};
-use super::rows::{Places, Row};
+use super::rows::{MOST_ROWS, Places, Row};
 use super::writing::count_games;
 use arrayvec::ArrayVec;
 use cards::refusals::Refusal;
@@ -59,7 +59,7 @@ fn read_header(file: &[u8]) -> Result<Header, Refusal>
     let offset = two_at(file, 10);
     let length = four_at(file, 12);
     if file[5] != 0
-        || rows > 48
+        || rows > MOST_ROWS
         || offset != 16
         || length != 16 + 4 * rows
         || length != file.len()
@@ -86,7 +86,7 @@ fn read_row(bytes: [u8; 4]) -> Result<Row, Refusal>
 }
 
 // The rows in this part of a file, four bytes each.
-fn read_rows(part: &[u8]) -> Result<ArrayVec<Row, 48>, Refusal>
+fn read_rows(part: &[u8]) -> Result<ArrayVec<Row, MOST_ROWS>, Refusal>
     requires { length part.now ≤ 192 }
     ensures { RowsRead part.now result }
 {

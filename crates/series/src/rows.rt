@@ -8,6 +8,9 @@ use cards::refusals::Refusal;
 use cards::seats::Seat;
 use cards::units::GamePoints;
 
+// The most rows that a list has.
+pub(super) const MOST_ROWS: usize = 48;
+
 // How many places a list has.
 #[derive(Clone, Copy, PartialEq, Eq, Drop)]
 pub enum Places {

@@ -45,17 +45,19 @@ struct Tally {
     defended: u32,
 }
 
-// A row where it stands: on a list of so many places, with so many rows before it.
+// A row of a list as one of its places counts it: how many places there are, which of them it
+// is, how many rows stand before, and the row.
 #[derive(Clone, Copy, Drop)]
-struct RowAt {
+struct RowFor {
     places: Places,
+    place: usize,
     i: usize,
     row: Row,
     ghost early: { i < 48 },
     ghost valid: { is_row row ≡ true },
 }
 
-impl RowAt {
+impl RowFor {
     // The place that has this seat: the dealer's is i modulo places, and the seats are the
     // next three.
     fn place_of(self, seat: Seat) -> usize
@@ -65,42 +67,42 @@ impl RowAt {
         (self.i % n + 1 + u8::from(seat) as usize) % n
     }
 
-    // Whether this place has a seat.
-    fn sits(self, place: usize) -> bool
-        ensures { result ≡ sits_in (places_number self.places) place self.i }
+    // Whether the place has a seat.
+    fn sits(self) -> bool
+        ensures { result ≡ sits_in (places_number self.places) self.place self.i }
     {
-        self.place_of(Seat::Forehand) == place
-            || self.place_of(Seat::Middlehand) == place
-            || self.place_of(Seat::Rearhand) == place
+        self.place_of(Seat::Forehand) == self.place
+            || self.place_of(Seat::Middlehand) == self.place
+            || self.place_of(Seat::Rearhand) == self.place
     }
 
-    // Whether this place is the declarer.
-    fn declares(self, place: usize) -> bool
-        ensures { result ≡ declares_in (places_number self.places) place self.i self.row }
-    {
-        match self.row {
-            Row::PassedIn => false,
-            Row::Game(declarer, _) => self.place_of(declarer) == place,
-        }
-    }
-
-    // Whether this place is a defender.
-    fn defends(self, place: usize) -> bool
-        ensures { result ≡ defends_in (places_number self.places) place self.i self.row }
+    // Whether the place is the declarer.
+    fn declares(self) -> bool
+        ensures { result ≡ declares_in (places_number self.places) self.place self.i self.row }
     {
         match self.row {
             Row::PassedIn => false,
-            Row::Game(declarer, _) => self.sits(place) && self.place_of(declarer) != place,
+            Row::Game(declarer, _) => self.place_of(declarer) == self.place,
         }
     }
 
-    // What the row counts for this place.
-    fn points_for(self, place: usize) -> GamePoints
-        ensures value { result.0 ≡ counts_for (places_number self.places) place self.i self.row }
+    // Whether the place is a defender.
+    fn defends(self) -> bool
+        ensures { result ≡ defends_in (places_number self.places) self.place self.i self.row }
+    {
+        match self.row {
+            Row::PassedIn => false,
+            Row::Game(declarer, _) => self.sits() && self.place_of(declarer) != self.place,
+        }
+    }
+
+    // What the row counts for the place.
+    fn points(self) -> GamePoints
+        ensures value { result.0 ≡ counts_for (places_number self.places) self.place self.i self.row }
         ensures low { neg_ℤ (pos 540) ≤ℤ result.0 }
         ensures high { result.0 ≤ℤ pos 264 }
     {
-        if self.declares(place) {
+        if self.declares() {
             self.row.points()
         } else {
             GamePoints(0)
@@ -135,24 +137,25 @@ impl Row {
 }
 
 impl Tally {
-    // The tally with a row counted too, of which there were so many before as it has before it.
-    fn with_row(self, at: RowAt, place: usize) -> Tally
-        requires points { (neg_ℤ (pos (540 * at.i)) ≤ℤ self.points.0) × (self.points.0 ≤ℤ pos (264 * at.i)) }
-        requires games { (self.won ≤ at.i) × ((self.lost ≤ at.i) × (self.defended ≤ at.i)) }
-        ensures points { result.points.0 ≡ self.points.0 +ℤ counts_for (places_number at.places) place at.i at.row }
-        ensures won { result.won ≡ self.won + (if wins_in (places_number at.places) place at.i at.row then 1 else 0) }
-        ensures lost { result.lost ≡ self.lost + (if loses_in (places_number at.places) place at.i at.row then 1 else 0) }
-        ensures defended { result.defended ≡ self.defended + (if defends_loss_in (places_number at.places) place at.i at.row then 1 else 0) }
-        ensures low { neg_ℤ (pos (540 * (at.i + 1))) ≤ℤ result.points.0 }
-        ensures high { result.points.0 ≤ℤ pos (264 * (at.i + 1)) }
+    // The tally with a row counted too. Its bounds grow with the number of rows, so they are
+    // asked here, and are no invariant of a tally.
+    fn with_row(self, row: RowFor) -> Tally
+        requires points { (neg_ℤ (pos (540 * row.i)) ≤ℤ self.points.0) × (self.points.0 ≤ℤ pos (264 * row.i)) }
+        requires games { (self.won ≤ row.i) × ((self.lost ≤ row.i) × (self.defended ≤ row.i)) }
+        ensures points { result.points.0 ≡ self.points.0 +ℤ counts_for (places_number row.places) row.place row.i row.row }
+        ensures won { result.won ≡ self.won + (if wins_in (places_number row.places) row.place row.i row.row then 1 else 0) }
+        ensures lost { result.lost ≡ self.lost + (if loses_in (places_number row.places) row.place row.i row.row then 1 else 0) }
+        ensures defended { result.defended ≡ self.defended + (if defends_loss_in (places_number row.places) row.place row.i row.row then 1 else 0) }
+        ensures low { neg_ℤ (pos (540 * (row.i + 1))) ≤ℤ result.points.0 }
+        ensures high { result.points.0 ≤ℤ pos (264 * (row.i + 1)) }
     {
-        let declared = at.declares(place);
-        let defended = at.defends(place);
+        let won = row.row.is_won();
+        let lost = row.row.is_lost();
         Tally {
-            points: GamePoints(self.points.0 + at.points_for(place).0),
-            won: self.won + (declared & at.row.is_won()) as u32,
-            lost: self.lost + (declared & at.row.is_lost()) as u32,
-            defended: self.defended + (defended & at.row.is_lost()) as u32,
+            points: GamePoints(self.points.0 + row.points().0),
+            won: self.won + (row.declares() & won) as u32,
+            lost: self.lost + (row.declares() & lost) as u32,
+            defended: self.defended + (row.defends() & lost) as u32,
         }
     }
 
@@ -182,7 +185,12 @@ impl Sheet {
         };
         let places = self.places;
         for (i, &row) in self.rows.iter().enumerate() {
-            tally = tally.with_row(RowAt { places, i, row }, place);
+            tally = tally.with_row(RowFor {
+                places,
+                place,
+                i,
+                row,
+            });
         }
         tally
     }
@@ -191,7 +199,7 @@ impl Sheet {
     pub(super) fn totals(&self, place: u8) -> Result<Totals, Refusal>
         ensures { result ≡ totals_answer (places_number self.now.places) place self.now.rows.items }
     {
-        if place >= self.places.into() {
+        if place >= u8::from(self.places) {
             return Err(Refusal::NoSuchEntry);
         }
         let tally = self.tally(place as usize);

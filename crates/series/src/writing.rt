@@ -15,7 +15,7 @@ impl Row {
     {
         match self {
             Row::PassedIn => 255,
-            Row::Game(declarer, _) => declarer.into(),
+            Row::Game(declarer, _) => u8::from(declarer),
         }
     }
 
@@ -67,7 +67,7 @@ impl Sheet {
             b'K',
             b'L',
             b'1',
-            self.places.into(),
+            u8::from(self.places),
             0,
             a,
             b,

@@ -17,7 +17,7 @@ returns c =
     let sheet = c.args.self.now in
     let rows = vec_items sheet.rows in
     let is = c.as_slice-rows.ensures.value in
-    fields_are (places_number sheet.places) (length rows) (games rows) _ _ _ _ c.into.ensures
+    fields_are (places_number sheet.places) (length rows) (games rows) _ _ _ _ c.from.ensures
     (c.to_le_bytes.ensures ∙ ap (λ rs. in_two (length rs)) is)
     (c.to_le_bytes-2.ensures ∙ ap in_two (c.count_games.ensures ∙ ap games is))
     (c.to_le_bytes-3.ensures ∙ ap (λ rs. in_four (file_length (length rs))) is)
