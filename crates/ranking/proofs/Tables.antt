@@ -1,20 +1,18 @@
 -- The entries of a list's places, and the totals and rank behind each, for the report.
-use Rattle.std.proofs.Common.{◌≡◌, ℕ, ◌+◌, ◌<◌, ◌≤◌, true, cond, ltb, List, [], ◌∷◌, ◌++◌, map, length, take, set, Some, None, Ok, Err, Option, Result, sym, refl, ap, ◌∙◌, subst, arith}
+use Rattle.std.proofs.Common.{◌≡◌, ℕ, ◌+◌, ◌<◌, ◌≤◌, true, cond, ltb, List, [], ◌∷◌, ◌++◌, map, length, Some, None, Ok, Err, Option, Result, sym, refl, ap, ◌∙◌, subst, arith}
 use Rattle.std.specs.List.{range_with_len, flat_map}
 use Rattle.std.proofs.lemmas.List.FromFn.{map-range_with_len_more, length-map-range_with_len}
-use Rattle.std.proofs.lemmas.List.{flat_map_more, map-id, take_more_set}
+use Rattle.std.proofs.lemmas.List.{flat_map_more, map-id}
 use Rattle.std.proofs.lemmas.Bool.{lt-ltb}
 use Rattle.cards.specs.declared.refusals.Refusal.{Refusal}
 use Rattle.cards.specs.Refusals.{answered}
 use Rattle.series.specs.declared.rows.Places.{Places}
 use Rattle.series.specs.declared.rows.Places.TheVariants.{Three, Four}
 use Rattle.series.specs.declared.rows.Row.{Row}
-use Rattle.series.specs.declared.totals.Totals.{Totals}
 use Rattle.series.specs.Format.{file_of, file_refusal}
 use Rattle.series.specs.Rows.{places_number, are_rows}
-use Rattle.series.specs.Totals.{totals_of}
 use Rattle.ranking.specs.declared.standings.Entry.{Entry}
-use Rattle.ranking.specs.Reports.{entry_of, entry_for, entries_of, IsStanding, IsReport, ReportBy}
+use Rattle.ranking.specs.Reports.{entry_for, entries_of, IsStanding, IsReport, ReportBy}
 
 -- an answer that comes under a test that holds
 pub answer_is : {A : Type 0} (i n : ℕ) (x y : A) (refusal : Refusal) → i < n → Ok x ≡ cond (ltb i n) (Ok y) (Err refusal) → x ≡ y
@@ -32,14 +30,16 @@ pub few_places : (places : Places) → places_number places ≤ 4
 few_places Three = omega arith
 few_places Four = omega arith
 
-pub length_entries : (n : ℕ) (rows : List Row) (entries : List Entry) → entries ≡ entries_of n rows → length entries ≡ n
-length_entries n rows entries are = ap length are ∙ length-map-range_with_len (entry_for n rows) 0 n
+pub length_counted : (n : ℕ) (rows : List Row) (k : ℕ) (entries : List Entry) → entries ≡ map (entry_for n rows) (range_with_len 0 k) → length entries ≡ k
+length_counted n rows k entries are = ap length are ∙ length-map-range_with_len (entry_for n rows) 0 k
 
-pub entries_more : (n : ℕ) (rows : List Row) (k : ℕ) (before : List Entry) (entry : Entry) (totals : Totals) → k < length before → take k before ≡ map (entry_for n rows) (range_with_len 0 k) → totals ≡ totals_of n k rows → entry ≡ entry_of totals → take (k + 1) (set before k entry) ≡ map (entry_for n rows) (range_with_len 0 (k + 1))
-entries_more n rows k before entry totals lt sofar is made =
-    take_more_set before k entry lt
-    ∙ (ap (λ es. es ++ entry ∷ []) sofar
-    ∙ (ap (λ e. map (entry_for n rows) (range_with_len 0 k) ++ e ∷ []) (made ∙ ap entry_of is) ∙ sym (map-range_with_len_more (entry_for n rows) 0 k k (omega arith))))
+pub length_entries : (n : ℕ) (rows : List Row) (entries : List Entry) → entries ≡ entries_of n rows → length entries ≡ n
+length_entries n rows entries are = length_counted n rows n entries are
+
+pub entries_more : (n : ℕ) (rows : List Row) (k : ℕ) (before : List Entry) (entry : Entry) → before ≡ map (entry_for n rows) (range_with_len 0 k) → entry ≡ entry_for n rows k → before ++ entry ∷ [] ≡ map (entry_for n rows) (range_with_len 0 (k + 1))
+entries_more n rows k before entry sofar is =
+    ap (λ es. es ++ entry ∷ []) sofar
+    ∙ (ap (λ e. map (entry_for n rows) (range_with_len 0 k) ++ e ∷ []) is ∙ sym (map-range_with_len_more (entry_for n rows) 0 k k (omega arith)))
 
 counting_more : (k : ℕ) → range_with_len 0 (k + 1) ≡ range_with_len 0 k ++ k ∷ []
 counting_more k = sym (map-id (range_with_len 0 (k + 1))) ∙ (map-range_with_len_more (λ x. x) 0 k k (omega arith) ∙ ap (λ ks. ks ++ k ∷ []) (map-id (range_with_len 0 k)))

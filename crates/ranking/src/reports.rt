@@ -5,33 +5,20 @@ ghost use Rattle.series.specs.Rows.{places_number};
 ghost use Rattle.ranking.specs.Reports.{line_text, place_text, IsStanding, IsReport};
 
 use super::places::{first_place, rank_of};
-use series::lines::totals_line;
 use series::lists::{ClosedList, OpenList};
-use series::totals::Totals;
+use series::rows::Places;
 use std::alloc::{AllocError, Global};
 
-// A place's line: its number, game points, games won, games lost, rating and rank.
-fn ranked_line(heap: Global, place: u8, totals: Totals, rank: usize) -> Result<String, AllocError>
-    ensures { IfOk result (λ line. string_bytes line ≡ line_text place totals rank) }
-{
-    let line = totals_line(heap, place, totals)?;
-    format!(in heap; "{line} {rank}\n")
-}
-
-// The lines of all places.
+// The lines of all places: of each its number, game points, games won, games lost, rating and
+// rank.
 fn lines(heap: Global, list: &ClosedList) -> Result<String, AllocError>
     ensures { IfOk result (λ text. string_bytes text ≡ flat_map (place_text (places_number list.now.sheet.places) list.now.sheet.rows.items) (range_with_len 0 (places_number list.now.sheet.places))) }
 {
     let mut text = String::new(heap);
-    for place in 0..list.places().number() {
-        let Ok(totals) = list.totals(place) else {
-            unreachable()
-        };
-        let Ok(rank) = rank_of(list, place) else {
-            unreachable()
-        };
-        let line = ranked_line(heap, place, totals, rank)?;
-        text.push_str(line.as_str())?;
+    for place in 0..u8::from(list.places()) {
+        let totals = list.totals(place).unwrap();
+        let rank = rank_of(list, place).unwrap();
+        write!(text, "{place} {totals} {rank}\n")?;
     }
     Ok(text)
 }
@@ -56,14 +43,11 @@ fn standing(heap: Global, list: &ClosedList) -> Result<String, AllocError>
 pub fn report(heap: Global, file: &[u8]) -> Result<String, AllocError>
     ensures { IfOk result (λ text. IsReport file.now (string_bytes text)) }
 {
-    let Ok(open) = OpenList::open(heap, 3) else {
-        return Err(AllocError);
-    };
-    let mut list = open.close();
+    let mut list = OpenList::empty(heap, Places::Three)?.close();
     match list.read(file) {
         Ok(()) => standing(heap, &list),
         Err(refusal) => {
-            let number = refusal.number();
+            let number = u8::from(refusal);
             format!(in heap; "{number}\n")
         }
     }
