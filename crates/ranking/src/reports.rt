@@ -18,24 +18,19 @@ fn lines(heap: Global, list: &ClosedList) -> Result<String, AllocError>
     for place in 0..u8::from(list.places()) {
         let totals = list.totals(place).unwrap();
         let rank = rank_of(list, place).unwrap();
-        write!(text, "{place} {totals} {rank}\n")?;
+        writeln!(text, "{place} {totals} {rank}")?;
     }
     Ok(text)
-}
-
-// The lines with one more, the place that is first.
-fn with_first(heap: Global, lines: &String, first: u8) -> Result<String, AllocError>
-    ensures { IfOk result (λ text. string_bytes text ≡ string_bytes lines.now ++ (decimal first ++ codes "\n")) }
-{
-    format!(in heap; "{lines}{first}\n")
 }
 
 // The standing of a list: the lines of all places, and the place that is first.
 fn standing(heap: Global, list: &ClosedList) -> Result<String, AllocError>
     ensures { IfOk result (λ text. IsStanding (places_number list.now.sheet.places) list.now.sheet.rows.items (string_bytes text)) }
 {
-    let lines = lines(heap, list)?;
-    with_first(heap, &lines, first_place(list))
+    let mut text = lines(heap, list)?;
+    let first = first_place(list);
+    writeln!(text, "{first}")?;
+    Ok(text)
 }
 
 // The report on a file: the standing of the list whose file it is, or the number of the

@@ -1,7 +1,8 @@
 // The file of a list.
+use super::lists::opened;
 use cards::units::GamePoints;
 use ranking::reports::report;
-use series::lists::{ClosedList, OpenList};
+use series::lists::ClosedList;
 use std::test::Fail;
 
 // Two rows at a table of three: middlehand lost 70, then a deal passed in.
@@ -34,25 +35,19 @@ const SPOILT: [(usize, usize, u8, u8); 19] = [
 ];
 
 fn empty(rt: HostRuntime) -> Result<ClosedList, Fail> {
-    match OpenList::open(rt.alloc(), 4) {
-        Ok(list) => Ok(list.close()),
-        Err(_) => Err(Fail::new("not opened")),
-    }
+    Ok(opened(rt, 4)?.close())
 }
 
 fn read(list: &mut ClosedList, file: &[u8]) -> u8 {
     match list.read(file) {
         Ok(()) => 0,
-        Err(refusal) => refusal.number(),
+        Err(refusal) => u8::from(refusal),
     }
 }
 
 #[test]
 fn a_list_is_written_and_read_back(rt: HostRuntime) -> Result<(), Fail> {
-    let mut open = match OpenList::open(rt.alloc(), 3) {
-        Ok(list) => list,
-        Err(_) => return Err(Fail::new("not opened")),
-    };
+    let mut open = opened(rt, 3)?;
     assert!(rt; open.enter(1, GamePoints(-70)).is_ok());
     assert!(rt; open.enter(255, GamePoints(0)).is_ok());
     let list = open.close();
@@ -77,10 +72,10 @@ fn bad_files_are_refused_and_leave_the_list(rt: HostRuntime) -> Result<(), Fail>
         assert!(rt; at < 25 && length <= 25);
         file[at] = byte;
         assert_eq!(rt; read(&mut list, &file[0..length]), number);
-        assert_eq!(rt; list.places().number(), 4);
+        assert_eq!(rt; u8::from(list.places()), 4);
     }
     assert_eq!(rt; read(&mut list, &FILE), 0);
-    assert_eq!(rt; list.places().number(), 3);
+    assert_eq!(rt; u8::from(list.places()), 3);
     Ok(())
 }
 

@@ -1,19 +1,17 @@
 // Lists and totals.
 use cards::units::GamePoints;
 use series::lists::{BadPlaces, NotOpened, OpenList};
+use series::rows::Places;
 use std::test::Fail;
 
-fn opened(rt: HostRuntime, places: u8) -> Result<OpenList, Fail> {
-    match OpenList::open(rt.alloc(), places) {
-        Ok(list) => Ok(list),
-        Err(_) => Err(Fail::new("not opened")),
-    }
+pub(super) fn opened(rt: HostRuntime, places: u8) -> Result<OpenList, Fail> {
+    Ok(OpenList::open(rt.alloc(), places).ok().ok_or("not opened")?)
 }
 
 fn enter(list: &mut OpenList, role: u8, points: i32) -> u8 {
     match list.enter(role, GamePoints(points)) {
         Ok(()) => 0,
-        Err(refusal) => refusal.number(),
+        Err(refusal) => u8::from(refusal),
     }
 }
 
@@ -68,11 +66,19 @@ fn five_places_give_an_empty_list_of_three(rt: HostRuntime) -> Result<(), Fail> 
     match OpenList::open(rt.alloc(), 5) {
         Err(NotOpened::Refused(bad)) => {
             let BadPlaces { refusal, list } = bad;
-            assert_eq!(rt; refusal.number(), 22);
-            assert_eq!(rt; list.places().number(), 3);
+            assert_eq!(rt; u8::from(refusal), 22);
+            assert_eq!(rt; u8::from(list.places()), 3);
             assert!(rt; list.rows().is_empty());
             Ok(())
         }
         _ => Err(Fail::new("opened")),
     }
+}
+
+#[test]
+fn an_empty_list_has_these_places_and_no_rows(rt: HostRuntime) -> Result<(), Fail> {
+    let list = OpenList::empty(rt.alloc(), Places::Four)?;
+    assert_eq!(rt; u8::from(list.places()), 4);
+    assert!(rt; list.rows().is_empty());
+    Ok(())
 }

@@ -22,9 +22,9 @@ loop-place-preserved c =
     let total = answer_is k n c.unwrap-totals.result (totals_of n k rows) NoSuchEntry lt (sym c.unwrap-totals.ensures ∙ c.totals.ensures) in
     let ranked = answer_is k (length entries) c.unwrap-rank.result (rank_at entries k) NoSuchEntry (omega arith) (sym c.unwrap-rank.ensures ∙ c.rank_of.ensures) in
     let line = sym (append_assoc (decimal k) (32 ∷ totals_numbers c.unwrap-totals.result) (32 ∷ (decimal c.unwrap-rank.result ++ 10 ∷ [])))
-      ∙ (ap (λ t. line_text k t c.unwrap-rank.result) total ∙ ap (line_text k (totals_of n k rows)) ranked) in
-    text_more (place_text n rows) k (string_bytes c.loop-place.text) (string_bytes c.write.new.self) c.loop-place.invariant
-    (c.in_ok-write.ensures.bytes ∙ ap (λ bytes. string_bytes c.loop-place.text ++ bytes) line)
+    ∙ (ap (λ t. line_text k t c.unwrap-rank.result) total ∙ ap (line_text k (totals_of n k rows)) ranked) in
+    text_more (place_text n rows) k (string_bytes c.loop-place.text) (string_bytes c.writeln.new.self) c.loop-place.invariant
+    (c.in_ok-writeln.ensures.bytes ∙ ap (λ bytes. string_bytes c.loop-place.text ++ bytes) line)
 
 pub returns : goal.returns
 returns c =
