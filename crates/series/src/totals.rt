@@ -31,8 +31,8 @@ impl Display for Totals {
             won,
             lost,
             rating,
-        } = *self;
-        write!(f, "{} {won} {lost} {}", points.0, rating.0)
+        } = self;
+        write!(f, "{points} {won} {lost} {rating}")
     }
 }
 
