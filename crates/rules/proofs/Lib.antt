@@ -1,4 +1,5 @@
 pub mod Listing
+pub mod Mapping
 pub mod Moves
 pub mod Positions
 pub mod Refused

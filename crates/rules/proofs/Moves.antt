@@ -3,7 +3,8 @@ use Rattle.std.proofs.Common.{◌≡◌, ℕ, Bool, cond, ◌⊎◌, List, map, 
 use Rattle.cards.specs.declared.deck.Card.{Card}
 use Rattle.cards.specs.declared.seats.Seat.{Seat}
 use Rattle.cards.specs.declared.seats.Seat.TheVariants.{Forehand}
-use Rattle.cards.specs.Deck.{card_at}
+use Rattle.cards.specs.Deck.{card_number, card_at}
+use Rattle.cards.proofs.Cardinals.{card_back}
 use Rattle.kinds.specs.Meanings.{Meaning}
 use Rattle.rules.specs.declared.calls.Call.{Call}
 use Rattle.rules.specs.declared.calls.Call.TheVariants.{Bid, Hold, Pass, Take, Put, Announce, Play}
@@ -51,17 +52,24 @@ module _ (m : Meaning) (deal : Deal) (seat : Seat) (common : Common) where
   unfolding next moved
   took piles e f = moves Take Take piles deal.twelve refl e f refl
 
-  pub stowed : (a b : ℕ) → common ≡ takes_skat before seat Announcing → ◌≡◌ {A = Deal} (record { common = common; piles = set (set deal.piles a InSkat) b InSkat; twelve = deal.twelve }) (step m deal seat (Put a b))
+  pub stowed : (a b i j : ℕ) → i ≡ a → j ≡ b → common ≡ takes_skat before seat Announcing → ◌≡◌ {A = Deal} (record { common = common; piles = set (set deal.piles i InSkat) j InSkat; twelve = deal.twelve }) (step m deal seat (Put a b))
   unfolding next moved
-  stowed a b e = moves (Put a b) (Put a b) (set (set deal.piles a InSkat) b InSkat) deal.twelve refl e refl refl
+  stowed a b i j first second e =
+      moves (Put a b) (Put a b) (set (set deal.piles i InSkat) j InSkat) deal.twelve refl e (λ k. set (set deal.piles (first k) InSkat) (second k) InSkat) refl
 
   pub announced : (game level : ℕ) (twelve : List Card) → common ≡ announces before seat game level → twelve ≡ twelve_of seat deal.piles → ◌≡◌ {A = Deal} (record { common = common; piles = deal.piles; twelve = Some twelve }) (step m deal seat (Announce game level))
   unfolding next moved
   announced game level twelve e g = moves (Announce game level) (Announce game level) deal.piles (Some twelve) refl e refl (ap Some g)
 
   -- a card, by the trick on the table
-  module _ (number : ℕ) (card : Card) (names : card ≡ card_at number) where
-    played : (trick : Trick) (piles : List Pile) → before.board.trick ≡ trick → common ≡ plays m before seat card trick → piles ≡ laid m before number trick deal.piles → ◌≡◌ {A = Deal} (record { common = common; piles = piles; twelve = deal.twelve }) (step m deal seat (Play number))
+  module _ (card : Card) (place : ℕ) (at : place ≡ card_number card) where
+    abbrev number : ℕ
+    number = card_number card
+
+    names : card ≡ card_at number
+    names = sym (card_back card)
+
+    played : (trick : Trick) (piles : List Pile) → before.board.trick ≡ trick → common ≡ plays m before seat card trick → piles ≡ laid m before number trick deal.piles → ◌≡◌ {A = Deal} (record { common = common; piles = piles; twelve = deal.twelve }) (step m deal seat (Play (card_number card)))
     unfolding next moved
     played trick piles on e f =
         moves (Play number) (Play number) piles deal.twelve refl
@@ -70,17 +78,20 @@ module _ (m : Meaning) (deal : Deal) (seat : Seat) (common : Common) where
         refl
 
     abbrev after : List Pile
-    after = set deal.piles number InTrick
+    after = set deal.piles place InTrick
 
-    pub led : (before.board.trick ≡ Empty) ⊎ ((a : Card) × (b : Card) × (c : Card) × (before.board.trick ≡ Full a b c)) → common ≡ lays before seat seat (One card) → ◌≡◌ {A = Deal} (record { common = common; piles = after; twelve = deal.twelve }) (step m deal seat (Play number))
-    led (inl on) e = played Empty after on e refl
-    led (inr last) e = played (Full last.0 last.1 last.2) after last.3 e refl
+    lies : after ≡ set deal.piles number InTrick
+    lies = ap (λ n. set deal.piles n InTrick) at
 
-    pub laid_second : (a : Card) → before.board.trick ≡ One a → common ≡ lays before seat before.board.leader (Two a card) → ◌≡◌ {A = Deal} (record { common = common; piles = after; twelve = deal.twelve }) (step m deal seat (Play number))
-    laid_second a on e = played (One a) after on e refl
+    pub led : (before.board.trick ≡ Empty) ⊎ ((a : Card) × (b : Card) × (c : Card) × (before.board.trick ≡ Full a b c)) → common ≡ lays before seat seat (One card) → ◌≡◌ {A = Deal} (record { common = common; piles = after; twelve = deal.twelve }) (step m deal seat (Play (card_number card)))
+    led (inl on) e = played Empty after on e lies
+    led (inr last) e = played (Full last.0 last.1 last.2) after last.3 e lies
 
-    pub filled : (a b : Card) → before.board.trick ≡ Two a b → (taker : Seat) → taker ≡ taker_of m before.board.leader a b card → (ours : Bool) → ours ≡ is_declarer before.contract taker → (piles : List Pile) → piles ≡ map (gathered ours) after → common ≡ fills m before taker a b card → ◌≡◌ {A = Deal} (record { common = common; piles = piles; twelve = deal.twelve }) (step m deal seat (Play number))
+    pub laid_second : (a : Card) → before.board.trick ≡ One a → common ≡ lays before seat before.board.leader (Two a card) → ◌≡◌ {A = Deal} (record { common = common; piles = after; twelve = deal.twelve }) (step m deal seat (Play (card_number card)))
+    laid_second a on e = played (One a) after on e lies
+
+    pub filled : (a b : Card) → before.board.trick ≡ Two a b → (taker : Seat) → taker ≡ taker_of m before.board.leader a b card → (ours : Bool) → ours ≡ is_declarer before.contract taker → (piles : List Pile) → piles ≡ map (gathered ours) after → common ≡ fills m before taker a b card → ◌≡◌ {A = Deal} (record { common = common; piles = piles; twelve = deal.twelve }) (step m deal seat (Play (card_number card)))
     filled a b on taker takes ours is piles f e =
         played (Two a b) piles on
         (e ∙ ap (λ t. fills m before t a b card) takes)
-        (f ∙ ap (λ o. map (gathered o) after) (is ∙ ap (is_declarer before.contract) (takes ∙ ap (taker_of m before.board.leader a b) names)))
+        (f ∙ ap (map (gathered ours)) lies ∙ ap (λ o. map (gathered o) (set deal.piles number InTrick)) (is ∙ ap (is_declarer before.contract) (takes ∙ ap (taker_of m before.board.leader a b) names)))

@@ -1,3 +1,4 @@
+pub mod Acts
 pub mod Announcing
 pub mod Bidding
 pub mod Board

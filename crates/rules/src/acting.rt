@@ -1,70 +1,73 @@
 // The seven acting calls.
-ghost use Rattle.std.specs.Prelude.{◌≡◌, ◌<◌, true, None};
-ghost use Rattle.cards.specs.Refusals.{answered, topmost};
+ghost use Rattle.std.specs.Prelude.{◌≡◌, true};
+ghost use Rattle.cards.specs.Refusals.{answered};
 ghost use Rattle.cards.specs.Seats.{seat_at};
 ghost use Rattle.kinds.specs.Meanings.{Meaning};
+ghost use Rattle.cards.specs.Deck.{card_number};
+ghost use Rattle.worth.specs.Announced.{game_number};
+ghost use Rattle.worth.specs.Levels.{level_number};
 ghost use Rattle.rules.specs.declared.calls.Call.TheVariants.{Take, Put, Announce};
-ghost use Rattle.rules.specs.Piles.{holding};
+ghost use Rattle.rules.specs.Acts.{call_of};
 ghost use Rattle.rules.specs.Moments.{in_row};
-ghost use Rattle.rules.specs.Refusing.{own_refusals, refusal_by};
+ghost use Rattle.rules.specs.Refusing.{refusal_by};
 ghost use Rattle.rules.specs.Steps.{step, after_call, Few};
 
 use super::announcing::twelve_cards;
-use super::calls::Call;
+use super::calls::{Act, Call};
 use super::deals::{Deal, Pile};
 use super::moments::Moment;
-use super::piles::lift;
+use super::piles::place_of;
+use cards::deck::Card;
 use cards::refusals::Refusal;
 use cards::seats::Seat;
 use kinds::kind::Kind;
+use worth::announced::Game;
+use worth::levels::Level;
 
 impl Deal {
     // The declarer takes the skat.
     fn take(&mut self, seat: Seat)
         ensures { (m : Meaning) → self.new ≡ step m self.old seat Take }
     {
-        lift(&mut self.piles, seat);
+        self.piles = self.piles.map(|pile| pile.lifted(seat));
         self.common = self.common.takes_skat(seat, Moment::Putting);
     }
 
     // The declarer puts two cards where the skat lay.
-    fn put(&mut self, seat: Seat, a: u8, b: u8)
-        requires { (a < 32) × (b < 32) }
-        ensures { (m : Meaning) → self.new ≡ step m self.old seat (Put a b) }
+    fn put(&mut self, seat: Seat, a: Card, b: Card)
+        ensures { (m : Meaning) → self.new ≡ step m self.old seat (Put (card_number a) (card_number b)) }
     {
-        self.piles[a as usize] = Pile::InSkat;
-        self.piles[b as usize] = Pile::InSkat;
+        self.piles[place_of(a)] = Pile::InSkat;
+        self.piles[place_of(b)] = Pile::InSkat;
         self.common = self.common.takes_skat(seat, Moment::Announcing);
     }
 
     // The declarer announces a game, and the twelve cards are copied.
-    fn announce(&mut self, seat: Seat, game: u8, level: u8)
-        requires { (game < 6) × (level < 4) }
-        ensures { (m : Meaning) → self.new ≡ step m self.old seat (Announce game level) }
+    fn announce(&mut self, seat: Seat, game: Game, level: Level)
+        ensures { (m : Meaning) → self.new ≡ step m self.old seat (Announce (game_number game) (level_number level)) }
     {
         self.twelve = Some(twelve_cards(&self.piles, seat));
         self.common = self.common.announces(seat, game, level);
     }
 
     // Moves the deal by a call that is refused for nothing.
-    fn apply<K: Kind>(&mut self, kind: &K, seat: Seat, call: Call)
-        requires row { in_row self.old.common.moment call ≡ true }
-        requires own { topmost (own_refusals (K.Kind.meaning kind.now) self.old.common (holding seat self.old.piles) call) ≡ None }
+    fn apply<K: Kind>(&mut self, kind: &K, seat: Seat, act: Act)
+        requires row { in_row self.old.common.moment (call_of act) ≡ true }
         requires few { Few self.old }
-        ensures { self.new ≡ step (K.Kind.meaning kind.now) self.old seat call }
+        ensures { self.new ≡ step (K.Kind.meaning kind.now) self.old seat (call_of act) }
     {
-        match (self.common.moment, call) {
-            (Moment::Bidding, Call::Bid(value)) => self.common = self.common.hears(value),
-            (Moment::Hearing, Call::Hold) => self.common = self.common.bids_next(self.common.pair),
-            (Moment::Alone, Call::Hold) => self.common = self.common.declares(Seat::Forehand, 18),
-            (Moment::Bidding, Call::Pass) => self.common = self.common.bidder_passes(),
-            (Moment::Hearing, Call::Pass) => self.common = self.common.hearer_passes(),
-            (Moment::Alone, Call::Pass) => self.common = self.common.passed_in(),
-            (Moment::Deciding, Call::Take) => self.take(seat),
-            (Moment::Putting, Call::Put(a, b)) => self.put(seat, a, b),
-            (Moment::Deciding, Call::Announce(game, level)) => self.announce(seat, game, level),
-            (Moment::Announcing, Call::Announce(game, level)) => self.announce(seat, game, level),
-            (Moment::Playing, Call::Play(card)) => self.play(kind, seat, card),
+        match (self.common.moment, act) {
+            (Moment::Bidding, Act::Bid(bid)) => self.common = self.common.hears(bid),
+            (Moment::Hearing, Act::Hold) => self.common = self.common.bids_next(self.common.pair),
+            (Moment::Alone, Act::Hold) => self.common = self.common.declares(Seat::Forehand, 18),
+            (Moment::Bidding, Act::Pass) => self.common = self.common.bidder_passes(),
+            (Moment::Hearing, Act::Pass) => self.common = self.common.hearer_passes(),
+            (Moment::Alone, Act::Pass) => self.common = self.common.passed_in(),
+            (Moment::Deciding, Act::Take) => self.take(seat),
+            (Moment::Putting, Act::Put(a, b)) => self.put(seat, a, b),
+            (Moment::Deciding, Act::Announce(game, level)) => self.announce(seat, game, level),
+            (Moment::Announcing, Act::Announce(game, level)) => self.announce(seat, game, level),
+            (Moment::Playing, Act::Play(card)) => self.play(kind, seat, card),
             _ => {}
         }
     }
@@ -76,13 +79,9 @@ impl Deal {
         ensures deal { self.new ≡ after_call (K.Kind.meaning kind.now) self.old (seat_at seat) call }
         ensures few { Few self.new }
     {
-        let Some(seat) = Seat::from_number(seat) else {
-            return Err(Refusal::NoSuchSeat);
-        };
-        if let Some(refusal) = self.refusal(kind, seat, call) {
-            return Err(refusal);
-        }
-        self.apply(kind, seat, call);
+        let seat = Seat::try_from(seat)?;
+        let act = self.admit(kind, seat, call)?;
+        self.apply(kind, seat, act);
         Ok(())
     }
 }

@@ -1,16 +1,17 @@
 // What the declarer does: take the skat or not, and announce a game.
-ghost use Rattle.std.specs.Prelude.{◌≡◌, ◌<◌, Bool, List, ◌==◌};
+ghost use Rattle.std.specs.Prelude.{◌≡◌, Bool, List, ◌==◌};
 ghost use Rattle.cards.specs.Refusals.{topmost};
 ghost use Rattle.kinds.specs.Meanings.{Meaning};
 ghost use Rattle.worth.specs.Announced.{game_number};
-ghost use Rattle.worth.specs.Levels.{is_open_level};
+ghost use Rattle.worth.specs.Levels.{level_number, is_open_level};
 ghost use Rattle.rules.specs.declared.calls.Call.TheVariants.{Announce};
+ghost use Rattle.rules.specs.Acts.{Admits};
 ghost use Rattle.rules.specs.Refusing.{own_refusals};
 ghost use Rattle.rules.specs.Steps.{takes_skat, announces as announces_by, twelve_of};
 
+use super::calls::Act;
 use super::deals::{Announcement, Board, Common, Contract, Pile};
 use super::moments::Moment;
-use super::numbers::{card_at, game_at, level_at};
 use cards::deck::{Card, Place, Suit};
 use cards::refusals::Refusal;
 use cards::seats::Seat;
@@ -56,18 +57,16 @@ impl Common {
     }
 
     // The declarer has announced, by hand where the skat was not taken; forehand leads.
-    pub(super) fn announces(self, seat: Seat, game: u8, level: u8) -> Common
-        requires game { game < 6 }
-        requires level { level < 4 }
-        ensures { result ≡ announces_by self seat game level }
+    pub(super) fn announces(self, seat: Seat, game: Game, level: Level) -> Common
+        ensures { result ≡ announces_by self seat (game_number game) (level_number level) }
     {
         Common {
             moment: Moment::Playing,
             turn: Seat::Forehand,
             contract: Contract::Announced(Announcement {
                 declarer: seat,
-                game: game_at(game),
-                level: level_at(level),
+                game,
+                level,
                 hand: self.moment.is_deciding(),
             }),
             board: Board::fresh(),
@@ -75,23 +74,21 @@ impl Common {
         }
     }
 
-    // Why this game at this level can't be announced.
-    pub(super) fn announce_refusal(self, game: u8, level: u8) -> Option<Refusal>
-        ensures { (m : Meaning) (own : List Bool) → result ≡ topmost (own_refusals m self own (Announce game level)) }
+    // The game and the level of these numbers, if they can be announced.
+    pub(super) fn admit_announce(self, game: u8, level: u8) -> Result<Act, Refusal>
+        ensures { (m : Meaning) (own : List Bool) → Admits (Announce game level) (topmost (own_refusals m self own (Announce game level))) result }
     {
-        if game > 5 || level > 3 {
-            return Some(Refusal::NoSuchGame);
-        }
-        let null = is_null(game_at(game));
-        let level = level_at(level);
+        let named = Game::from_number(game).ok_or(Refusal::NoSuchGame)?;
+        let at = Level::from_number(level).ok_or(Refusal::NoSuchGame)?;
+        let null = is_null(named);
         let hand = self.moment.is_deciding();
-        if !is_open_level(level, null, hand) {
-            return Some(Refusal::LevelNotOpen);
+        if !is_open_level(at, null, hand) {
+            return Err(Refusal::LevelNotOpen);
         }
-        if null && null_value(level, hand) < self.bid as u32 {
-            return Some(Refusal::NullBelowBid);
+        if null && null_value(at, hand) < self.bid as u32 {
+            return Err(Refusal::NullBelowBid);
         }
-        None
+        Ok(Act::Announce(named, at))
     }
 }
 
@@ -101,9 +98,10 @@ pub(super) fn twelve_cards(piles: &[Pile; 32], seat: Seat) -> [Card; 12]
 {
     let mut twelve = [LOWEST; 12];
     let mut count = 0;
-    for number in 0..32u8 {
-        if piles[number as usize].is_held_or_in_skat(seat) && count < 12 {
-            twelve[count] = card_at(number);
+    let deck = Card::deck();
+    for (pile, card) in piles.iter().zip(&deck) {
+        if pile.is_held_or_in_skat(seat) && count < 12 {
+            twelve[count] = *card;
             count += 1;
         }
     }

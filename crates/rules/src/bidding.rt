@@ -6,6 +6,7 @@ ghost use Rattle.rules.specs.Bidding.{bids_next, hears as hears_at, declares as 
 use super::deals::{Board, Common, Contract, Pair, Taken, Trick};
 use super::moments::Moment;
 use cards::seats::Seat;
+use worth::bids::Bid;
 
 impl Pair {
     // Who of the pair bids.
@@ -61,13 +62,13 @@ impl Common {
     }
 
     // The hearer is to answer a bid.
-    pub(super) fn hears(self, value: u16) -> Common
-        ensures { result ≡ hears_at self value }
+    pub(super) fn hears(self, bid: Bid) -> Common
+        ensures { result ≡ hears_at self bid.value }
     {
         Common {
             moment: Moment::Hearing,
             turn: self.pair.hearer(),
-            bid: value,
+            bid: bid.value(),
             contract: Contract::Undecided,
             board: Board::fresh(),
             ..self

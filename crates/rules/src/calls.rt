@@ -1,4 +1,8 @@
 // What a seat can do at the table.
+use cards::deck::Card;
+use worth::announced::Game;
+use worth::bids::Bid;
+use worth::levels::Level;
 
 // The seven acting calls, with the numbers that a seat names: a bid, card numbers, a game and a
 // level. Any number can be named.
@@ -11,4 +15,16 @@ pub enum Call {
     Put(u8, u8),
     Announce(u8, u8),
     Play(u8),
+}
+
+// A call that is refused for nothing, with what its numbers name.
+#[derive(Clone, Copy, Drop)]
+pub enum Act {
+    Bid(Bid),
+    Hold,
+    Pass,
+    Take,
+    Put(Card, Card),
+    Announce(Game, Level),
+    Play(Card),
 }

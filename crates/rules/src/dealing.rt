@@ -35,14 +35,10 @@ fn pile_for(dealt: Dealt) -> Pile
 }
 
 // The piles of all cards, listed by their numbers.
-fn piles_for(dealt: &[Dealt; 32]) -> [Pile; 32]
-    ensures { result ≡ map pile_for dealt.now }
+fn piles_for(dealt: [Dealt; 32]) -> [Pile; 32]
+    ensures { result ≡ map pile_for dealt }
 {
-    let mut piles = [Pile::InSkat; 32];
-    for i in 0..32 {
-        piles[i] = pile_for(dealt[i]);
-    }
-    piles
+    dealt.map(pile_for)
 }
 
 impl Deal {
@@ -53,7 +49,7 @@ impl Deal {
         let dealt = pack.deal();
         Deal {
             common: Common::opening(),
-            piles: piles_for(&dealt),
+            piles: piles_for(dealt),
             twelve: None,
         }
     }

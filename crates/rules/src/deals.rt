@@ -70,7 +70,7 @@ pub struct Common {
 }
 
 // Where a card can lie. The skat is also where the put cards lie.
-#[derive(Clone, Copy, Drop)]
+#[derive(Clone, Copy, PartialEq, Eq, Drop)]
 pub enum Pile {
     InHand(Seat),
     InSkat,

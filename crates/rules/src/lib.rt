@@ -9,7 +9,6 @@ pub mod calls;
 pub mod dealing;
 pub mod deals;
 pub mod moments;
-pub mod numbers;
 pub mod piles;
 pub mod playing;
 pub mod refusing;

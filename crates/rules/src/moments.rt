@@ -7,7 +7,7 @@ use super::calls::Call;
 // What a deal waits for: a bid, the answer to a bid, forehand alone after two passes without a
 // bid, the declarer's choice to take the skat or not, the cards put away, an announcement, a card;
 // or nothing more.
-#[derive(Clone, Copy, Drop)]
+#[derive(Clone, Copy, PartialEq, Eq, Drop)]
 pub enum Moment {
     Bidding,
     Hearing,
@@ -31,14 +31,14 @@ impl Moment {
     pub fn is_settled(self) -> bool
         ensures { result ≡ is_at 7 self }
     {
-        matches!(self, Moment::Settled)
+        self == Moment::Settled
     }
 
     // Whether the skat still lies, so that an announcement now is of a hand game.
     pub fn is_deciding(self) -> bool
         ensures { result ≡ is_at 3 self }
     {
-        matches!(self, Moment::Deciding)
+        self == Moment::Deciding
     }
 
     // Whether a call can be made in this moment.

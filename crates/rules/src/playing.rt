@@ -1,5 +1,6 @@
 // The play: a card laid to the open trick, and a trick that is full.
 ghost use Rattle.std.specs.Prelude.{◌≡◌, suc, ◌+◌, ◌<◌, cond};
+ghost use Rattle.cards.specs.Deck.{card_number};
 ghost use Rattle.cards.specs.Seats.{following};
 ghost use Rattle.rules.specs.declared.calls.Call.TheVariants.{Play};
 ghost use Rattle.rules.specs.Board.{taker_of};
@@ -7,8 +8,7 @@ ghost use Rattle.rules.specs.Steps.{lays as lays_to, settles as settles_at, fill
 
 use super::deals::{Board, Common, Deal, Pile, Taken, Trick};
 use super::moments::Moment;
-use super::numbers::card_at;
-use super::piles::gather;
+use super::piles::place_of;
 use cards::deck::Card;
 use cards::seats::Seat;
 use kinds::kind::Kind;
@@ -110,15 +110,13 @@ fn taking_seat<K: Kind>(kind: &K, leader: Seat, a: Card, b: Card, c: Card) -> Se
 
 impl Deal {
     // Lays a card that the seat may play; the third of a trick gives it to a side.
-    pub(super) fn play<K: Kind>(&mut self, kind: &K, seat: Seat, card: u8)
-        requires card { card < 32 }
+    pub(super) fn play<K: Kind>(&mut self, kind: &K, seat: Seat, card: Card)
         requires few { self.old.common.board.taken.declarer + self.old.common.board.taken.defenders < 10 }
-        ensures { self.new ≡ step (K.Kind.meaning kind.now) self.old seat (Play card) }
+        ensures { self.new ≡ step (K.Kind.meaning kind.now) self.old seat (Play (card_number card)) }
     {
         let common = self.common;
         let leader = common.board.leader;
-        self.piles[card as usize] = Pile::InTrick;
-        let card = card_at(card);
+        self.piles[place_of(card)] = Pile::InTrick;
         match common.board.trick {
             Trick::Empty | Trick::Full(_, _, _) => {
                 self.common = common.lays(seat, seat, Trick::One(card));
@@ -128,7 +126,8 @@ impl Deal {
             }
             Trick::Two(a, b) => {
                 let taker = taking_seat(kind, leader, a, b, card);
-                gather(&mut self.piles, common.contract.is_declarer(taker));
+                let by_declarer = common.contract.is_declarer(taker);
+                self.piles = self.piles.map(|pile| pile.gathered(by_declarer));
                 self.common = common.fills(kind, taker, a, b, card);
             }
         }

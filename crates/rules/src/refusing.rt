@@ -1,95 +1,94 @@
-// What an acting call is refused for.
+// What an acting call is refused for, and what it comes to otherwise.
 ghost use Rattle.std.specs.Prelude.{◌≡◌, Bool, List};
 ghost use Rattle.cards.specs.Refusals.{topmost};
 ghost use Rattle.kinds.specs.Meanings.{Meaning};
-ghost use Rattle.rules.specs.declared.calls.Call.TheVariants.{Bid, Put, Play};
+ghost use Rattle.rules.specs.declared.calls.Call.TheVariants.{Put, Play};
+ghost use Rattle.rules.specs.Acts.{Admits};
 ghost use Rattle.rules.specs.Piles.{holding};
 ghost use Rattle.rules.specs.Refusing.{own_refusals, refusal_of};
 
-use super::calls::Call;
+use super::calls::{Act, Call};
 use super::deals::{Common, Deal};
-use super::piles::{holds, is_same_seat};
+use super::piles::holds;
 use super::serving::{class_to_serve, is_of_class};
+use cards::deck::Card;
 use cards::refusals::Refusal;
 use cards::seats::Seat;
 use kinds::kind::Kind;
-use worth::bidding::is_bid_value;
+use worth::bids::Bid;
 
 impl Common {
-    // Why this value can't be bid.
-    fn bid_refusal(self, value: u16) -> Option<Refusal>
-        ensures { (m : Meaning) (own : List Bool) → result ≡ topmost (own_refusals m self own (Bid value)) }
+    // The bid of this value, if it can be made.
+    fn admit_bid(self, value: u16) -> Result<Act, Refusal>
+        ensures { (m : Meaning) (own : List Bool) → Admits (Call.Bid value) (topmost (own_refusals m self own (Call.Bid value))) result }
     {
-        if !is_bid_value(value) {
-            return Some(Refusal::NoBidValue);
-        }
+        let bid = Bid::new(value).ok_or(Refusal::NoBidValue)?;
         if value <= self.bid {
-            return Some(Refusal::BidTooLow);
+            return Err(Refusal::BidTooLow);
         }
-        None
+        Ok(Act::Bid(bid))
     }
 }
 
 impl Deal {
-    // Why a seat can't put these cards.
-    fn put_refusal(&self, seat: Seat, a: u8, b: u8) -> Option<Refusal>
-        ensures { (m : Meaning) → result ≡ topmost (own_refusals m self.now.common (holding seat self.now.piles) (Put a b)) }
+    // The cards of these numbers, if a seat can put them.
+    fn admit_put(&self, seat: Seat, a: u8, b: u8) -> Result<Act, Refusal>
+        ensures { (m : Meaning) → Admits (Put a b) (topmost (own_refusals m self.now.common (holding seat self.now.piles) (Put a b))) result }
     {
-        if a > 31 || b > 31 {
-            return Some(Refusal::NoSuchCard);
+        let first = Card::try_from(a)?;
+        let second = Card::try_from(b)?;
+        if first == second {
+            return Err(Refusal::SameCardTwice);
         }
-        if a == b {
-            return Some(Refusal::SameCardTwice);
+        if !(holds(&self.piles, seat, first) && holds(&self.piles, seat, second)) {
+            return Err(Refusal::CardNotHeld);
         }
-        if !(holds(&self.piles, seat, a) && holds(&self.piles, seat, b)) {
-            return Some(Refusal::CardNotHeld);
-        }
-        None
+        Ok(Act::Put(first, second))
     }
 
-    // Why a seat can't play this card.
-    fn play_refusal<K: Kind>(&self, kind: &K, seat: Seat, card: u8) -> Option<Refusal>
-        ensures { result ≡ topmost (own_refusals (K.Kind.meaning kind.now) self.now.common (holding seat self.now.piles) (Play card)) }
+    // The card of this number, if a seat can play it.
+    fn admit_play<K: Kind>(&self, kind: &K, seat: Seat, number: u8) -> Result<Act, Refusal>
+        ensures { Admits (Play number) (topmost (own_refusals (K.Kind.meaning kind.now) self.now.common (holding seat self.now.piles) (Play number))) result }
     {
-        if card > 31 {
-            return Some(Refusal::NoSuchCard);
-        }
+        let card = Card::try_from(number)?;
         if !holds(&self.piles, seat, card) {
-            return Some(Refusal::CardNotHeld);
+            return Err(Refusal::CardNotHeld);
         }
         let class = class_to_serve(kind, &self.piles, seat, self.common.board.trick);
         if !is_of_class(kind, class, card) {
-            return Some(Refusal::LedClassHeld);
+            return Err(Refusal::LedClassHeld);
         }
-        None
+        Ok(Act::Play(card))
     }
 
-    // What can be wrong with a call in its moment, in the order of the numbers.
-    fn own_refusal<K: Kind>(&self, kind: &K, seat: Seat, call: Call) -> Option<Refusal>
-        ensures { result ≡ topmost (own_refusals (K.Kind.meaning kind.now) self.now.common (holding seat self.now.piles) call) }
+    // What a call comes to in its moment, if nothing is wrong with it.
+    fn admit_own<K: Kind>(&self, kind: &K, seat: Seat, call: Call) -> Result<Act, Refusal>
+        ensures { Admits call (topmost (own_refusals (K.Kind.meaning kind.now) self.now.common (holding seat self.now.piles) call)) result }
     {
         match call {
-            Call::Bid(value) => self.common.bid_refusal(value),
-            Call::Put(a, b) => self.put_refusal(seat, a, b),
-            Call::Announce(game, level) => self.common.announce_refusal(game, level),
-            Call::Play(card) => self.play_refusal(kind, seat, card),
-            Call::Hold | Call::Pass | Call::Take => None,
+            Call::Bid(value) => self.common.admit_bid(value),
+            Call::Hold => Ok(Act::Hold),
+            Call::Pass => Ok(Act::Pass),
+            Call::Take => Ok(Act::Take),
+            Call::Put(a, b) => self.admit_put(seat, a, b),
+            Call::Announce(game, level) => self.common.admit_announce(game, level),
+            Call::Play(card) => self.admit_play(kind, seat, card),
         }
     }
 
-    // What a seat's call is refused for, if for anything.
-    pub fn refusal<K: Kind>(&self, kind: &K, seat: Seat, call: Call) -> Option<Refusal>
-        ensures { result ≡ refusal_of (K.Kind.meaning kind.now) self.now.common (holding seat self.now.piles) seat call }
+    // What a seat's call comes to, or what it is refused for.
+    pub fn admit<K: Kind>(&self, kind: &K, seat: Seat, call: Call) -> Result<Act, Refusal>
+        ensures { Admits call (refusal_of (K.Kind.meaning kind.now) self.now.common (holding seat self.now.piles) seat call) result }
     {
         if self.common.moment.is_settled() {
-            return Some(Refusal::DealIsSettled);
+            return Err(Refusal::DealIsSettled);
         }
-        if !is_same_seat(seat, self.common.turn) {
-            return Some(Refusal::NotThisSeatsTurn);
+        if seat != self.common.turn {
+            return Err(Refusal::NotThisSeatsTurn);
         }
         if !self.common.moment.admits(call) {
-            return Some(Refusal::NotInThisMoment);
+            return Err(Refusal::NotInThisMoment);
         }
-        self.own_refusal(kind, seat, call)
+        self.admit_own(kind, seat, call)
     }
 }

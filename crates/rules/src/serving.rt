@@ -1,12 +1,12 @@
 // Serving the led class.
-ghost use Rattle.std.specs.Prelude.{◌≡◌, ◌<◌};
+ghost use Rattle.std.specs.Prelude.{◌≡◌};
+ghost use Rattle.cards.specs.Deck.{card_number};
 ghost use Rattle.rules.specs.Board.{any_of_class};
 ghost use Rattle.rules.specs.Piles.{holding, marked};
 ghost use Rattle.rules.specs.Serving.{class_to_serve, is_of_class};
 
 use super::deals::{Pile, Trick};
-use super::numbers::card_at;
-use super::piles::holds;
+use cards::deck::Card;
 use cards::seats::Seat;
 use kinds::kind::Kind;
 
@@ -14,12 +14,11 @@ use kinds::kind::Kind;
 pub fn holds_class<K: Kind>(kind: &K, piles: &[Pile; 32], seat: Seat, class: u8) -> bool
     ensures { result ≡ any_of_class (K.Kind.meaning kind.now) class (marked (holding seat piles.now)) }
 {
-    for number in 0..32u8 {
-        if holds(piles, seat, number) && kind.class(card_at(number)) == class {
-            return true;
-        }
-    }
-    false
+    let deck = Card::deck();
+    piles
+        .iter()
+        .zip(&deck)
+        .any(|(pile, card)| pile.is_held(seat) && kind.class(*card) == class)
 }
 
 // The class that a seat has to serve: the led card's, where it holds a card of it.
@@ -38,12 +37,11 @@ pub fn class_to_serve<K: Kind>(kind: &K, piles: &[Pile; 32], seat: Seat, trick: 
 }
 
 // Whether a card is of the class to serve, if there is one.
-pub fn is_of_class<K: Kind>(kind: &K, class: Option<u8>, card: u8) -> bool
-    requires { card < 32 }
-    ensures { result ≡ is_of_class (K.Kind.meaning kind.now) class card }
+pub fn is_of_class<K: Kind>(kind: &K, class: Option<u8>, card: Card) -> bool
+    ensures { result ≡ is_of_class (K.Kind.meaning kind.now) class (card_number card) }
 {
     match class {
-        Some(class) => kind.class(card_at(card)) == class,
+        Some(class) => kind.class(card) == class,
         None => true,
     }
 }

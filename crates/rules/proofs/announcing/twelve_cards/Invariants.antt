@@ -1,5 +1,6 @@
+use Rattle.std.proofs.Common.{length}
 use Rattle.rules.proofs.Listing.{Listed}
 use Rattle.rules.proofs.announcing.twelve_cards.Given as goal
 
-abbrev pub invariant-loop-number : goal.invariant-loop-number
-invariant-loop-number l = Listed l.seat l.piles l.number l.count l.twelve
+abbrev pub invariant-loop-pile : goal.invariant-loop-pile
+invariant-loop-pile l = Listed l.fn.seat l.piles (length l.yielded) l.count l.twelve

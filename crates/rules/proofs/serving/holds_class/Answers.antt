@@ -1,23 +1,22 @@
-use Rattle.rules.proofs.Served.{met, unmet_none, unmet_class, unmet_card, unmet_all}
+use Rattle.std.proofs.Common.{rules, ◌≡◌, true, false, length, map, sym, ap, ◌∙◌}
+use Rattle.std.specs.List.{range_with_len, zip, list_any}
+use Rattle.std.proofs.lemmas.Iterator.{YieldsList-from_slice, YieldsList-from_zip, cases_from_any}
+use borrow.Author.Tests.{tests}
+use Rattle.cards.specs.Deck.{card_at}
+use Rattle.rules.proofs.Served.{fits, any_of, any_held}
 use Rattle.rules.proofs.serving.holds_class.Goals as goal
-use Rattle.rules.proofs.serving.holds_class.Goals.{else-holds-via-then-holds+else-class, else-holds-via-else-holds}
-
-pub loop-number-init : goal.loop-number-init
-loop-number-init g c = unmet_none (g.K.Kind.meaning c.args.kind.now) c.args.class c.args.seat c.args.piles.now
-
-pub returns-then-class : goal.returns-then-class
-returns-then-class g c =
-    met (g.K.Kind.meaning c.args.kind.now) c.args.class c.args.seat c.args.piles.now c.told-piles c.loop-number.number c.loop-number.invariant c.card_at.result c.class.result c.loop-number-test.true c.if-holds.ensures c.card_at.ensures c.class.ensures c.if-class.true
-
-pub loop-number-preserved : goal.loop-number-preserved
-loop-number-preserved g c =
-    elim c.else-holds.branch [
-      | else-holds-via-then-holds+else-class w ↦
-          unmet_class (g.K.Kind.meaning c.args.kind.now) c.args.class c.args.seat c.args.piles.now c.told-piles c.loop-number.number c.loop-number.invariant w.card_at.result w.class.result c.loop-number-test.true w.if-holds.ensures w.card_at.ensures w.class.ensures w.if-class.false
-      | else-holds-via-else-holds w ↦
-          unmet_card (g.K.Kind.meaning c.args.kind.now) c.args.class c.args.seat c.args.piles.now c.told-piles c.loop-number.number c.loop-number.invariant c.loop-number-test.true w.if-holds.ensures
-    ]
 
 pub returns : goal.returns
 returns g c =
-    unmet_all (g.K.Kind.meaning c.args.kind.now) c.args.class c.args.seat c.args.piles.now c.told-piles c.loop-number.number c.loop-number.invariant c.loop-number-test.false
+    let m = g.K.Kind.meaning c.args.kind.now in
+    let test = fits m c.args.class c.args.seat in
+    let piles = c.args.piles.now in
+    let long : length piles ≡ 32 = search rules in
+    any_of m c.args.class c.args.seat _ c.any.result
+    (cases_from_any c.any.new.self _ c.any.result (λ x. test x ≡ true) (λ x. test x ≡ false) c.any.ensures.ran
+    (YieldsList-from_zip (YieldsList-from_slice piles (search rules)) (YieldsList-from_slice c.deck-deck.result (search rules)))
+    (λ x q k. search (rules, tests))
+    (λ x q k. (search rules, search (rules, tests))))
+    ∙ (ap (λ cards. list_any test (zip piles cards)) c.deck-deck.ensures
+    ∙ (ap (λ n. list_any test (zip piles (map card_at (range_with_len 0 n)))) (sym long)
+    ∙ any_held m c.args.class c.args.seat 0 piles))
