@@ -4,10 +4,12 @@ use Rattle.cards.specs.declared.seats.Seat.{Seat}
 use Rattle.cards.specs.declared.seats.Seat.TheVariants.{Forehand, Middlehand, Rearhand}
 use Rattle.rules.specs.declared.deals.Board.{Board}
 use Rattle.rules.specs.declared.deals.Common.{Common}
+use Rattle.rules.specs.declared.deals.Contract.{Contract}
 use Rattle.rules.specs.declared.deals.Contract.TheVariants.{Undecided, Won}
 use Rattle.rules.specs.declared.deals.Pair.{Pair}
 use Rattle.rules.specs.declared.deals.Pair.TheVariants.{MiddlehandToForehand, RearhandToForehand, RearhandToMiddlehand}
 use Rattle.rules.specs.declared.deals.Trick.TheVariants.{Empty}
+use Rattle.rules.specs.declared.moments.Moment.{Moment}
 use Rattle.rules.specs.declared.moments.Moment.TheVariants.{Bidding, Hearing, Alone, Deciding, Settled}
 
 abbrev pub bidder : Pair → Seat
@@ -23,6 +25,10 @@ hearer RearhandToMiddlehand = Middlehand
 -- No card is played yet, and forehand is to lead.
 abbrev pub fresh_board : Board
 fresh_board = record { taken = record { declarer = 0; defenders = 0 }; leader = Forehand; trick = Empty }
+
+-- The deal waits for this seat in this moment, before any card is played.
+abbrev pub waits : Common → Moment → Seat → Contract → Common
+waits c moment turn contract = record { moment = moment; turn = turn; pair = c.pair; bid = c.bid; contract = contract; board = fresh_board }
 
 -- This pair bids, from the highest bid so far.
 abbrev pub bids_next : Common → Pair → Common

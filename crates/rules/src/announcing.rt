@@ -10,7 +10,7 @@ ghost use Rattle.rules.specs.Refusing.{own_refusals};
 ghost use Rattle.rules.specs.Steps.{takes_skat, announces as announces_by, twelve_of};
 
 use super::calls::Act;
-use super::deals::{Announcement, Board, Common, Contract, Pile};
+use super::deals::{Announcement, Common, Contract, Pile};
 use super::moments::Moment;
 use cards::deck::{Card, Place, Suit};
 use cards::refusals::Refusal;
@@ -47,31 +47,20 @@ impl Common {
     pub(super) fn takes_skat(self, seat: Seat, moment: Moment) -> Common
         ensures { result ≡ takes_skat self seat moment }
     {
-        Common {
-            moment,
-            turn: seat,
-            contract: Contract::SkatTaken(seat),
-            board: Board::fresh(),
-            ..self
-        }
+        self.waits(moment, seat, Contract::SkatTaken(seat))
     }
 
     // The declarer has announced, by hand where the skat was not taken; forehand leads.
     pub(super) fn announces(self, seat: Seat, game: Game, level: Level) -> Common
         ensures { result ≡ announces_by self seat (game_number game) (level_number level) }
     {
-        Common {
-            moment: Moment::Playing,
-            turn: Seat::Forehand,
-            contract: Contract::Announced(Announcement {
-                declarer: seat,
-                game,
-                level,
-                hand: self.moment.is_deciding(),
-            }),
-            board: Board::fresh(),
-            ..self
-        }
+        let contract = Contract::Announced(Announcement {
+            declarer: seat,
+            game,
+            level,
+            hand: self.moment.is_deciding(),
+        });
+        self.waits(Moment::Playing, Seat::Forehand, contract)
     }
 
     // The game and the level of these numbers, if they can be announced.

@@ -1,7 +1,7 @@
 // Who bids to whom, and what every seat sees after each call of the auction.
 ghost use Rattle.std.specs.Prelude.{◌≡◌};
 ghost use Rattle.rules.specs.Bidding.{bidder as bidder_of, hearer as hearer_of, fresh_board};
-ghost use Rattle.rules.specs.Bidding.{bids_next, hears as hears_at, declares as declares_at, leaves_forehand, passed_in, bidder_passes, hearer_passes};
+ghost use Rattle.rules.specs.Bidding.{waits, bids_next, hears as hears_at, declares as declares_at, leaves_forehand, passed_in, bidder_passes, hearer_passes};
 
 use super::deals::{Board, Common, Contract, Pair, Taken, Trick};
 use super::moments::Moment;
@@ -47,17 +47,26 @@ impl Board {
 }
 
 impl Common {
+    // The deal waits for this seat in this moment, before any card is played.
+    pub(super) fn waits(self, moment: Moment, turn: Seat, contract: Contract) -> Common
+        ensures { result ≡ waits self moment turn contract }
+    {
+        Common {
+            moment,
+            turn,
+            contract,
+            board: Board::fresh(),
+            ..self
+        }
+    }
+
     // This pair bids, from the highest bid so far.
     pub(super) fn bids_next(self, pair: Pair) -> Common
         ensures { result ≡ bids_next self pair }
     {
         Common {
-            moment: Moment::Bidding,
-            turn: pair.bidder(),
             pair,
-            contract: Contract::Undecided,
-            board: Board::fresh(),
-            ..self
+            ..self.waits(Moment::Bidding, pair.bidder(), Contract::Undecided)
         }
     }
 
@@ -66,12 +75,8 @@ impl Common {
         ensures { result ≡ hears_at self bid.value }
     {
         Common {
-            moment: Moment::Hearing,
-            turn: self.pair.hearer(),
             bid: bid.value(),
-            contract: Contract::Undecided,
-            board: Board::fresh(),
-            ..self
+            ..self.waits(Moment::Hearing, self.pair.hearer(), Contract::Undecided)
         }
     }
 
@@ -80,12 +85,8 @@ impl Common {
         ensures { result ≡ declares_at self seat value }
     {
         Common {
-            moment: Moment::Deciding,
-            turn: seat,
             bid: value,
-            contract: Contract::Won(seat),
-            board: Board::fresh(),
-            ..self
+            ..self.waits(Moment::Deciding, seat, Contract::Won(seat))
         }
     }
 
@@ -94,12 +95,8 @@ impl Common {
         ensures { result ≡ leaves_forehand self }
     {
         Common {
-            moment: Moment::Alone,
-            turn: Seat::Forehand,
             bid: 0,
-            contract: Contract::Undecided,
-            board: Board::fresh(),
-            ..self
+            ..self.waits(Moment::Alone, Seat::Forehand, Contract::Undecided)
         }
     }
 
@@ -108,12 +105,8 @@ impl Common {
         ensures { result ≡ passed_in self }
     {
         Common {
-            moment: Moment::Settled,
-            turn: Seat::Forehand,
             bid: 0,
-            contract: Contract::Undecided,
-            board: Board::fresh(),
-            ..self
+            ..self.waits(Moment::Settled, Seat::Forehand, Contract::Undecided)
         }
     }
 

@@ -15,10 +15,7 @@ pub fn holds_class<K: Kind>(kind: &K, piles: &[Pile; 32], seat: Seat, class: u8)
     ensures { result ≡ any_of_class (K.Kind.meaning kind.now) class (marked (holding seat piles.now)) }
 {
     let deck = Card::deck();
-    piles
-        .iter()
-        .zip(&deck)
-        .any(|(pile, card)| pile.is_held(seat) && kind.class(*card) == class)
+    piles.iter().zip(&deck).any(|(pile, card)| pile.is_held(seat) && kind.class(*card) == class)
 }
 
 // The class that a seat has to serve: the led card's, where it holds a card of it.

@@ -1,4 +1,4 @@
-use Rattle.std.proofs.Common.{◌≡◌, length, rules}
+use Rattle.std.proofs.Common.{rules}
 use Rattle.cards.specs.declared.dealing.Dealt.TheVariants.{Skat}
 use Rattle.rules.specs.declared.deals.Pile.TheVariants.{InSkat}
 use Rattle.rules.specs.Dealing.{pile_for}

@@ -12,8 +12,8 @@ apply-requires-clause-row g c =
 
 pub returns-in_err-act-clause-answer : goal.returns-in_err-act-clause-answer
 returns-in_err-act-clause-answer g c =
-   let p = err_from_is_err_and c.from_residual-in_err-act.result c.from_residual-in_err-act.ensures.1 in
-   rw p.1 (refused (g.K.Kind.meaning c.args.kind.now) c.args.self.now c.in_ok-seat.seat c.args.seat c.in_ok-seat.ensures c.args.call c.in_err-act.field-0.0 _ c.in_err-act.ensures p.2)
+    let p = err_from_is_err_and c.from_residual-in_err-act.result c.from_residual-in_err-act.ensures.1 in
+    rw p.1 (refused (g.K.Kind.meaning c.args.kind.now) c.args.self.now c.in_ok-seat.seat c.args.seat c.in_ok-seat.ensures c.args.call c.in_err-act.field-0.0 _ c.in_err-act.ensures p.2)
 
 pub returns : goal.returns
 returns g c =

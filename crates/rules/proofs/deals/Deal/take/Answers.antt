@@ -1,4 +1,4 @@
-use Rattle.std.proofs.Common.{◌≡◌, length, rules}
+use Rattle.std.proofs.Common.{rules}
 use Rattle.rules.specs.declared.deals.Pile.TheVariants.{InSkat}
 use Rattle.rules.specs.Steps.{lifted}
 use Rattle.rules.proofs.Mapping.{mapped}
