@@ -67,17 +67,17 @@ impl Common {
     pub(super) fn admit_announce(self, game: u8, level: u8) -> Result<Act, Refusal>
         ensures { (m : Meaning) (own : List Bool) → Admits (Announce game level) (topmost (own_refusals m self own (Announce game level))) result }
     {
-        let named = Game::from_number(game).ok_or(Refusal::NoSuchGame)?;
-        let at = Level::from_number(level).ok_or(Refusal::NoSuchGame)?;
-        let null = is_null(named);
+        let game = Game::try_from(game)?;
+        let level = Level::try_from(level)?;
+        let null = is_null(game);
         let hand = self.moment.is_deciding();
-        if !is_open_level(at, null, hand) {
+        if !is_open_level(level, null, hand) {
             return Err(Refusal::LevelNotOpen);
         }
-        if null && null_value(at, hand) < self.bid as u32 {
+        if null && null_value(level, hand) < self.bid as u32 {
             return Err(Refusal::NullBelowBid);
         }
-        Ok(Act::Announce(named, at))
+        Ok(Act::Announce(game, level))
     }
 }
 

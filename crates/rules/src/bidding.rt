@@ -75,7 +75,7 @@ impl Common {
         ensures { result ≡ hears_at self bid.value }
     {
         Common {
-            bid: bid.value(),
+            bid: u16::from(bid),
             ..self.waits(Moment::Hearing, self.pair.hearer(), Contract::Undecided)
         }
     }

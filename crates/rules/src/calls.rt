@@ -6,7 +6,7 @@ use worth::levels::Level;
 
 // The seven acting calls, with the numbers that a seat names: a bid, card numbers, a game and a
 // level. Any number can be named.
-#[derive(Clone, Copy, Drop)]
+#[derive(Clone, Copy, Debug, PartialEq, Eq, Drop)]
 pub enum Call {
     Bid(u16),
     Hold,

@@ -7,7 +7,7 @@ use worth::announced::Game;
 use worth::levels::Level;
 
 // Who bids to whom.
-#[derive(Clone, Copy, Drop)]
+#[derive(Clone, Copy, Debug, PartialEq, Eq, Drop)]
 pub enum Pair {
     MiddlehandToForehand,
     RearhandToForehand,
@@ -35,7 +35,7 @@ pub enum Contract {
 
 // The trick on the table: none yet, one or two cards of the open trick, or the last trick, which
 // lies there until the next lead.
-#[derive(Clone, Copy, Drop)]
+#[derive(Clone, Copy, Debug, PartialEq, Eq, Drop)]
 pub enum Trick {
     Empty,
     One(Card),
@@ -44,7 +44,7 @@ pub enum Trick {
 }
 
 // How many tricks each side has.
-#[derive(Clone, Copy, Drop)]
+#[derive(Clone, Copy, Debug, PartialEq, Eq, Drop)]
 pub struct Taken {
     pub declarer: u8,
     pub defenders: u8,
@@ -70,7 +70,7 @@ pub struct Common {
 }
 
 // Where a card can lie. The skat is also where the put cards lie.
-#[derive(Clone, Copy, PartialEq, Eq, Drop)]
+#[derive(Clone, Copy, Debug, PartialEq, Eq, Drop)]
 pub enum Pile {
     InHand(Seat),
     InSkat,

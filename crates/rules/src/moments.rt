@@ -7,7 +7,7 @@ use super::calls::Call;
 // What a deal waits for: a bid, the answer to a bid, forehand alone after two passes without a
 // bid, the declarer's choice to take the skat or not, the cards put away, an announcement, a card;
 // or nothing more.
-#[derive(Clone, Copy, PartialEq, Eq, Drop)]
+#[derive(Clone, Copy, Debug, PartialEq, Eq, Drop)]
 pub enum Moment {
     Bidding,
     Hearing,
@@ -19,12 +19,21 @@ pub enum Moment {
     Settled,
 }
 
+impl From<Moment> for u8 {
+    ghost from_gives = { λ moment number. number ≡ moment_number moment };
+
+    // The moment's number.
+    fn from(moment: Moment) -> u8 {
+        moment as u8
+    }
+}
+
 impl Moment {
     // The moment's number.
     pub fn number(self) -> u8
         ensures { result ≡ moment_number self }
     {
-        self as u8
+        u8::from(self)
     }
 
     // Whether the deal waits for nothing more.

@@ -22,7 +22,7 @@ impl Common {
     fn admit_bid(self, value: u16) -> Result<Act, Refusal>
         ensures { (m : Meaning) (own : List Bool) → Admits (Call.Bid value) (topmost (own_refusals m self own (Call.Bid value))) result }
     {
-        let bid = Bid::new(value).ok_or(Refusal::NoBidValue)?;
+        let bid = Bid::try_from(value)?;
         if value <= self.bid {
             return Err(Refusal::BidTooLow);
         }
@@ -35,22 +35,22 @@ impl Deal {
     fn admit_put(&self, seat: Seat, a: u8, b: u8) -> Result<Act, Refusal>
         ensures { (m : Meaning) → Admits (Put a b) (topmost (own_refusals m self.now.common (holding seat self.now.piles) (Put a b))) result }
     {
-        let first = Card::try_from(a)?;
-        let second = Card::try_from(b)?;
-        if first == second {
+        let a = Card::try_from(a)?;
+        let b = Card::try_from(b)?;
+        if a == b {
             return Err(Refusal::SameCardTwice);
         }
-        if !(holds(&self.piles, seat, first) && holds(&self.piles, seat, second)) {
+        if !(holds(&self.piles, seat, a) && holds(&self.piles, seat, b)) {
             return Err(Refusal::CardNotHeld);
         }
-        Ok(Act::Put(first, second))
+        Ok(Act::Put(a, b))
     }
 
     // The card of this number, if a seat can play it.
-    fn admit_play<K: Kind>(&self, kind: &K, seat: Seat, number: u8) -> Result<Act, Refusal>
-        ensures { Admits (Play number) (topmost (own_refusals (K.Kind.meaning kind.now) self.now.common (holding seat self.now.piles) (Play number))) result }
+    fn admit_play<K: Kind>(&self, kind: &K, seat: Seat, card: u8) -> Result<Act, Refusal>
+        ensures { Admits (Play card) (topmost (own_refusals (K.Kind.meaning kind.now) self.now.common (holding seat self.now.piles) (Play card))) result }
     {
-        let card = Card::try_from(number)?;
+        let card = Card::try_from(card)?;
         if !holds(&self.piles, seat, card) {
             return Err(Refusal::CardNotHeld);
         }
