@@ -1,7 +1,6 @@
 // Lists: an open one takes rows, a closed one is written and read. Neither is copied, so that
 // a row cannot be entered on a list once it is closed.
 ghost use Rattle.std.specs.Prelude.{◌≡◌, ◌≤◌, true, vec_len, vec_capacity};
-ghost use Rattle.arrayvec.specs.ArrayVec.{array_vec_len};
 ghost use Rattle.series.specs.Rows.{are_rows};
 
 use super::rows::{MOST_ROWS, Places, Row};
@@ -24,7 +23,6 @@ pub(super) struct Sheet {
 pub(super) struct Listed {
     pub(super) places: Places,
     pub(super) rows: ArrayVec<Row, MOST_ROWS>,
-    ghost few: { array_vec_len rows ≤ 48 },
     ghost valid: { are_rows rows.items ≡ true },
 }
 

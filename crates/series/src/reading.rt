@@ -37,7 +37,6 @@ fn four_at(bytes: &[u8], i: usize) -> usize
 
 // Whether a file begins with the tag.
 fn is_tag(file: &[u8]) -> bool
-    requires { 16 ≤ length file.now }
     ensures { result ≡ is_tag file.now }
 {
     matches!(file, [b'S', b'K', b'L', b'1', ..])
@@ -139,16 +138,6 @@ impl Sheet {
         self.rows.clear();
         self.rows.extend_from_slice(listed.rows.as_slice()).unwrap();
     }
-
-    // Puts the list whose file this is in the place of its own.
-    fn reread(&mut self, file: &[u8]) -> Result<(), Refusal>
-        ensures answer { result ≡ answered (file_refusal file.now) tt }
-        ensures list { ListRead file.now result self.old.places self.old.rows.items self.new.places self.new.rows.items }
-    {
-        let listed = read_list(file)?;
-        self.refill(&listed);
-        Ok(())
-    }
 }
 
 impl ClosedList {
@@ -158,6 +147,8 @@ impl ClosedList {
         ensures list { ListRead file.now result self.old.sheet.places self.old.sheet.rows.items self.new.sheet.places self.new.sheet.rows.items }
         ensures back { ReadBack file.now result self.new.sheet.places self.new.sheet.rows.items }
     {
-        self.sheet.reread(file)
+        let listed = read_list(file)?;
+        self.sheet.refill(&listed);
+        Ok(())
     }
 }

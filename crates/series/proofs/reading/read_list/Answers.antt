@@ -1,7 +1,7 @@
 use Rattle.std.proofs.Common.{ℕ, ◌<◌, get_or, ap, ◌∙◌, eqb, arith}
 use Rattle.std.proofs.lemmas.Result.{err_from_is_err_and}
 use Rattle.series.specs.Format.{games}
-use Rattle.series.proofs.Filing.{part_refused, rows_few, games_differ, list_read}
+use Rattle.series.proofs.Filing.{part_refused, games_differ, list_read}
 use Rattle.series.proofs.Headers.{header_refused}
 use Rattle.series.proofs.reading.read_list.Goals as goal
 
@@ -32,9 +32,3 @@ returns c =
     let small : (i : ℕ) → get_or file i 0 < 256 = λ i. omega (arith, c.type_inv.file i) in
     let told = c.games_agree.ensures ∙ ap (λ rows. eqb (games rows) c.in_ok-header.header.games) c.as_slice.ensures.value in
     list_read file head.0 _ _ c.rows_part.ensures head.3 c.in_ok-rows.rows.items read.0 read.2 _ told head.2 small read.1 _ head.1 c.if-not-games_agree.false
-
-pub invariant_of-result : goal.invariant_of-result
-invariant_of-result c =
-    let head = c.in_ok-header.ensures in
-    let read = c.in_ok-rows.ensures in
-    record { few = rows_few c.args.file.now head.0 _ _ c.rows_part.ensures head.3 _ read.1; valid = read.2 }
