@@ -20,12 +20,6 @@ answer_is i n x y refusal lt e =
     let ok : ◌≡◌ {A = Result _ Refusal} (Ok x) (Ok y) = e ∙ ap (λ b. cond b (Ok y) (Err refusal)) (lt-ltb i n lt) in
     cc
 
-pub no_refusal : {A : Type 0} (i n : ℕ) (y : A) (found refusal : Refusal) → i < n → Err found ≡ cond (ltb i n) (Ok y) (Err refusal) → ⊥
-no_refusal {A} i n y found refusal lt e =
-    let bad : ◌≡◌ {A = Result A Refusal} (Err found) (Ok y) = e ∙ ap (λ b. cond b (Ok y) (Err refusal)) (lt-ltb i n lt) in
-    let z : ◌≡◌ {A = ℕ} 0 1 = cc in
-    omega arith
-
 pub few_places : (places : Places) → places_number places ≤ 4
 few_places Three = omega arith
 few_places Four = omega arith

@@ -82,7 +82,8 @@ impl Sheet {
         ]
     }
 
-    // Writes the rows' bytes into the front of the buffer.
+    // Writes the rows' bytes into the front of the buffer. They go in by index, since nothing is
+    // known of what a slice holds after a loop over its chunks.
     fn write_rows(&self, buffer: &mut [u8])
         requires { 4 * length self.now.rows.items ≤ length buffer.old }
         ensures { buffer.new ≡ flat_map row_bytes self.now.rows.items ++ drop (4 * length self.now.rows.items) buffer.old }
