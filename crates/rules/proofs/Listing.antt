@@ -40,16 +40,6 @@ pub record Listed (seat : Seat) (piles : List Pile) (i count : ℕ) (twelve : Li
   pub exact : count < 12 → count ≡ length (hand_and_skat seat (take i piles))
   pub listed : twelve ≡ padded 12 (card_at 0) (hand_and_skat seat (take i piles))
 
-pub relisted : {seat : Seat} {piles : List Pile} {i count same : ℕ} {twelve alike : List Card} → same ≡ count → alike ≡ twelve → Listed seat piles i count twelve → Listed seat piles i same alike
-relisted e f sofar = record {
-  counted = omega (arith, sofar.counted);
-  exact = λ room. e ∙ sofar.exact (omega arith);
-  listed = f ∙ sofar.listed;
-}
-
-pub listed_none : (seat : Seat) (piles : List Pile) → Listed seat piles 0 0 (replicate 12 (card_at 0))
-listed_none seat piles = record { counted = omega arith; exact = λ _. refl; listed = refl }
-
 pub listed_all : (seat : Seat) (piles : List Pile) (i count : ℕ) (twelve : List Card) → length piles ≤ i → Listed seat piles i count twelve → twelve ≡ twelve_of seat piles
 listed_all seat piles i count twelve le sofar = sofar.listed ∙ ap (twelve_of seat) (take_all i piles le)
 

@@ -1,5 +1,5 @@
 // A deal newly set from a cut pack.
-ghost use Rattle.std.specs.Prelude.{◌≡◌, map};
+ghost use Rattle.std.specs.Prelude.{◌≡◌};
 ghost use Rattle.rules.specs.Dealing.{pile_for, opening as opening_of, start};
 
 use super::deals::{Board, Common, Contract, Deal, Pair, Pile};
@@ -24,21 +24,16 @@ impl Common {
     }
 }
 
-// The pile of a card that was dealt so.
-fn pile_for(dealt: Dealt) -> Pile
-    ensures { result ≡ pile_for dealt }
-{
-    match dealt {
-        Dealt::Hand(seat) => Pile::InHand(seat),
-        Dealt::Skat => Pile::InSkat,
-    }
-}
+impl From<Dealt> for Pile {
+    ghost from_gives = { λ dealt pile. pile ≡ pile_for dealt };
 
-// The piles of all cards, listed by their numbers.
-fn piles_for(dealt: [Dealt; 32]) -> [Pile; 32]
-    ensures { result ≡ map pile_for dealt }
-{
-    dealt.map(pile_for)
+    // The pile of a card that was dealt so.
+    fn from(dealt: Dealt) -> Pile {
+        match dealt {
+            Dealt::Hand(seat) => Pile::InHand(seat),
+            Dealt::Skat => Pile::InSkat,
+        }
+    }
 }
 
 impl Deal {
@@ -46,10 +41,9 @@ impl Deal {
     pub fn set(pack: CutPack) -> Deal
         ensures { result ≡ start pack.cards }
     {
-        let dealt = pack.deal();
         Deal {
             common: Common::opening(),
-            piles: piles_for(dealt),
+            piles: pack.deal().map(Pile::from),
             twelve: None,
         }
     }

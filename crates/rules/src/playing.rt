@@ -1,12 +1,12 @@
 // The play: a card laid to the open trick, and a trick that is full.
-ghost use Rattle.std.specs.Prelude.{◌≡◌, suc, ◌+◌, ◌<◌, cond};
+ghost use Rattle.std.specs.Prelude.{◌≡◌, ◌+◌, ◌<◌};
 ghost use Rattle.cards.specs.Deck.{card_number};
 ghost use Rattle.cards.specs.Seats.{following};
 ghost use Rattle.rules.specs.declared.calls.Call.TheVariants.{Play};
 ghost use Rattle.rules.specs.Board.{taker_of};
 ghost use Rattle.rules.specs.Steps.{lays as lays_to, settles as settles_at, fills as fills_by, step};
 
-use super::deals::{Board, Common, Deal, Pile, Taken, Trick};
+use super::deals::{Board, Common, Deal, Pile, Trick};
 use super::moments::Moment;
 use super::piles::place_of;
 use cards::deck::Card;
@@ -22,28 +22,6 @@ pub fn seat_after(seat: Seat) -> Seat
         Seat::Forehand => Seat::Middlehand,
         Seat::Middlehand => Seat::Rearhand,
         Seat::Rearhand => Seat::Forehand,
-    }
-}
-
-impl Taken {
-    // One trick more for a side.
-    fn with_one(self, by_declarer: bool) -> Taken
-        requires { self.declarer + self.defenders < 10 }
-        ensures declarer { result.declarer ≡ cond by_declarer (suc self.declarer) self.declarer }
-        ensures defenders { result.defenders ≡ cond by_declarer self.defenders (suc self.defenders) }
-        ensures sum { result.declarer + result.defenders ≡ suc (self.declarer + self.defenders) }
-    {
-        if by_declarer {
-            Taken {
-                declarer: self.declarer + 1,
-                ..self
-            }
-        } else {
-            Taken {
-                defenders: self.defenders + 1,
-                ..self
-            }
-        }
     }
 }
 
@@ -78,8 +56,13 @@ impl Common {
         ensures { result ≡ fills_by (K.Kind.meaning kind.now) self taker a b card }
     {
         let by_declarer = self.contract.is_declarer(taker);
-        let taken = self.board.taken.with_one(by_declarer);
-        let over = settles(kind, by_declarer, taken.declarer + taken.defenders);
+        let mut taken = self.board.taken;
+        let over = settles(kind, by_declarer, taken.declarer + taken.defenders + 1);
+        if by_declarer {
+            taken.declarer += 1;
+        } else {
+            taken.defenders += 1;
+        }
         Common {
             moment: if over {
                 Moment::Settled

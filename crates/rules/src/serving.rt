@@ -26,19 +26,12 @@ pub fn class_to_serve<K: Kind>(kind: &K, piles: &[Pile; 32], seat: Seat, trick: 
         return None;
     };
     let class = kind.class(led);
-    if holds_class(kind, piles, seat, class) {
-        Some(class)
-    } else {
-        None
-    }
+    holds_class(kind, piles, seat, class).then_some(class)
 }
 
 // Whether a card is of the class to serve, if there is one.
 pub fn is_of_class<K: Kind>(kind: &K, class: Option<u8>, card: Card) -> bool
     ensures { result ≡ is_of_class (K.Kind.meaning kind.now) class (card_number card) }
 {
-    match class {
-        Some(class) => kind.class(card) == class,
-        None => true,
-    }
+    class.is_none_or(|class| kind.class(card) == class)
 }
