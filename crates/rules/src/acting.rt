@@ -34,6 +34,7 @@ impl Deal {
     }
 
     // The declarer puts two cards where the skat lay.
+    #[tactic(auto, unfolding(crate::specs::Steps::next, crate::specs::Steps::moved))]
     fn put(&mut self, seat: Seat, a: Card, b: Card)
         ensures { (m : Meaning) → self.new ≡ step m self.old seat (Put (card_number a) (card_number b)) }
     {
@@ -43,6 +44,7 @@ impl Deal {
     }
 
     // The declarer announces a game, and the twelve cards are copied.
+    #[tactic(auto, unfolding(crate::specs::Steps::next, crate::specs::Steps::moved))]
     fn announce(&mut self, seat: Seat, game: Game, level: Level)
         ensures { (m : Meaning) → self.new ≡ step m self.old seat (Announce (game_number game) (level_number level)) }
     {
@@ -51,6 +53,7 @@ impl Deal {
     }
 
     // Moves the deal by a call that is refused for nothing.
+    #[tactic(auto, unfolding(crate::specs::Steps::next, crate::specs::Steps::moved))]
     fn apply<K: Kind>(&mut self, kind: &K, seat: Seat, act: Act)
         requires row { in_row self.old.common.moment (call_of act) ≡ true }
         requires few { Few self.old }
