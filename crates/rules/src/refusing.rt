@@ -77,6 +77,7 @@ impl Deal {
     }
 
     // What a seat's call comes to, or what it is refused for.
+    #[tactic(auto, unfolding(crate::specs::Refusing::refusal_of))]
     pub fn admit<K: Kind>(&self, kind: &K, seat: Seat, call: Call) -> Result<Act, Refusal>
         ensures { Admits call (refusal_of (K.Kind.meaning kind.now) self.now.common (holding seat self.now.piles) seat call) result }
     {
