@@ -1,27 +1,23 @@
--- The refusals of a call in their order, those of its own last, for `admit`.
-use Rattle.std.proofs.Common.{◌≡◌, ℕ, Bool, true, false, not, List, ◌∷◌, Some, None, Err, Result, refl, sym, ap, ◌∙◌, subst}
-use Rattle.std.proofs.lemmas.Bool.{cond-true, cond-false, not_from_true, not_from_false, not-false}
+-- What follows for a deal from how a call was admitted or refused, for `act`.
+use Rattle.std.proofs.Common.{◌≡◌, ℕ, Bool, true, not, List, ◌∷◌, Some, None, Err, Result, refl, sym, ap, ◌∙◌}
+use Rattle.std.proofs.lemmas.Bool.{cond-true, not-false}
 use Rattle.cards.specs.declared.refusals.Refusal.{Refusal}
 use Rattle.cards.specs.declared.refusals.Refusal.TheVariants.{DealIsSettled, NotThisSeatsTurn, NotInThisMoment}
 use Rattle.cards.specs.declared.seats.Seat.{Seat}
 use Rattle.cards.specs.declared.seats.Seat.TheVariants.{Forehand, Middlehand, Rearhand}
 use Rattle.cards.specs.Seats.{seat_number, seat_at}
-use Rattle.cards.specs.Refusals.{answered, topmost}
+use Rattle.cards.specs.Refusals.{answered}
 use Rattle.cards.proofs.Topmost.{none_parts}
 use Rattle.kinds.specs.Meanings.{Meaning}
 use Rattle.rules.specs.declared.calls.Act.{Act}
 use Rattle.rules.specs.declared.calls.Call.{Call}
 use Rattle.rules.specs.declared.deals.Common.{Common}
 use Rattle.rules.specs.declared.deals.Deal.{Deal}
-use Rattle.rules.specs.Acts.{Admits, call_of}
+use Rattle.rules.specs.Acts.{call_of}
 use Rattle.rules.specs.Moments.{is_at, in_row}
 use Rattle.rules.specs.Piles.{is_seat, holding}
 use Rattle.rules.specs.Refusing.{own_refusals, refusal_of, refusal_by, is_none}
 use Rattle.rules.specs.Steps.{step, after_call}
-
-module _ (m : Meaning) (c : Common) (hand : List Bool) (call : Call) where
-  pub own_of : (same : Call) → call ≡ same → (r : Result Act Refusal) → Admits same (topmost (own_refusals m c hand same)) r → Admits call (topmost (own_refusals m c hand call)) r
-  own_of same is r own = subst (λ k. Admits k (topmost (own_refusals m c hand k)) r) (sym is) own
 
 -- an act comes from a call that stands in its moment's row
 pub in_its_row : (m : Meaning) (c : Common) (hand : List Bool) (seat : Seat) (call : Call) (act : Act) → refusal_of m c hand seat call ≡ None → call_of act ≡ call → in_row c.moment (call_of act) ≡ true
@@ -32,28 +28,6 @@ in_its_row m c hand seat call act none is =
     let later = none_parts NotThisSeatsTurn (not (is_seat seat c.turn)) rows all.1 in
     let parts = none_parts NotInThisMoment (not (in_row c.moment call)) (own_refusals m c hand call) later.1 in
     ap (in_row c.moment) is ∙ not-false _ parts.0
-
-module _ (m : Meaning) (c : Common) (hand : List Bool) (seat : Seat) (call : Call) where
-  pub by_settled : true ≡ is_at 7 c.moment → refusal_of m c hand seat call ≡ Some DealIsSettled
-  unfolding refusal_of
-  by_settled settled = cond-true _ _ _ (sym settled)
-
-  module _ (live : false ≡ is_at 7 c.moment) where
-    pub by_turn : false ≡ is_seat seat c.turn → refusal_of m c hand seat call ≡ Some NotThisSeatsTurn
-    unfolding refusal_of
-    by_turn other = cond-false _ _ _ (sym live) ∙ cond-true _ _ _ (not_from_false _ (sym other))
-
-    module _ (turn : true ≡ is_seat seat c.turn) where
-      pub by_moment : false ≡ in_row c.moment call → refusal_of m c hand seat call ≡ Some NotInThisMoment
-      unfolding refusal_of
-      by_moment other = cond-false _ _ _ (sym live) ∙ (cond-false _ _ _ (not_from_true _ (sym turn)) ∙ cond-true _ _ _ (not_from_false _ (sym other)))
-
-      pub by_own : true ≡ in_row c.moment call → (r : Result Act Refusal) → Admits call (topmost (own_refusals m c hand call)) r → Admits call (refusal_of m c hand seat call) r
-      unfolding refusal_of
-      by_own row r own =
-          subst (λ refused. Admits call refused r)
-          (sym (cond-false _ _ _ (sym live) ∙ (cond-false _ _ _ (not_from_true _ (sym turn)) ∙ cond-false _ _ _ (not_from_true _ (sym row)))))
-          own
 
 seat_back : (seat : Seat) → seat_at (seat_number seat) ≡ Some seat
 seat_back Forehand = refl

@@ -1,4 +1,3 @@
-use Rattle.std.proofs.Common.{rules}
 use Rattle.std.proofs.lemmas.Result.{err_from_is_err_and}
 use Rattle.rules.specs.Acts.{call_of}
 use Rattle.rules.specs.Piles.{holding}
@@ -15,12 +14,12 @@ returns-in_err-act-clause-answer g c =
     let p = err_from_is_err_and c.from_residual-in_err-act.result c.from_residual-in_err-act.ensures.1 in
     rw p.1 (refused (g.K.Kind.meaning c.args.kind.now) c.args.self.now c.in_ok-seat.seat c.args.seat c.in_ok-seat.ensures c.args.call c.in_err-act.field-0.0 _ c.in_err-act.ensures p.2)
 
-pub returns : goal.returns
-returns g c =
-    let m = g.K.Kind.meaning c.args.kind.now in
-    let row = in_its_row m c.args.self.now.common (holding c.in_ok-seat.seat c.args.self.now.piles) c.in_ok-seat.seat c.args.call c.in_ok-act.act c.in_ok-act.ensures.0 c.in_ok-act.ensures.1 in
-    record {
-      answer = search rules;
-      deal = accepted m c.args.self.now c.in_ok-seat.seat c.args.seat c.in_ok-seat.ensures c.args.call (call_of c.in_ok-act.act) c.apply.new.self c.in_ok-act.ensures.0 c.in_ok-act.ensures.1 c.apply.ensures;
-      few = few_step m c.args.self.now c.in_ok-seat.seat (call_of c.in_ok-act.act) c.requires.few row c.apply.new.self c.apply.ensures;
-    }
+pub returns-clause-deal : goal.returns-clause-deal
+returns-clause-deal g c =
+    accepted (g.K.Kind.meaning c.args.kind.now) c.args.self.now c.in_ok-seat.seat c.args.seat c.in_ok-seat.ensures c.args.call (call_of c.in_ok-act.act) c.apply.new.self c.in_ok-act.ensures.0 c.in_ok-act.ensures.1 c.apply.ensures
+
+pub returns-clause-few : goal.returns-clause-few
+returns-clause-few g c =
+    few_step (g.K.Kind.meaning c.args.kind.now) c.args.self.now c.in_ok-seat.seat (call_of c.in_ok-act.act) c.requires.few
+    (in_its_row (g.K.Kind.meaning c.args.kind.now) c.args.self.now.common (holding c.in_ok-seat.seat c.args.self.now.piles) c.in_ok-seat.seat c.args.call c.in_ok-act.act c.in_ok-act.ensures.0 c.in_ok-act.ensures.1)
+    c.apply.new.self c.apply.ensures
