@@ -71,6 +71,7 @@ impl Deal {
             (Moment::Deciding, Act::Announce(game, level)) => self.announce(seat, game, level),
             (Moment::Announcing, Act::Announce(game, level)) => self.announce(seat, game, level),
             (Moment::Playing, Act::Play(card)) => self.play(kind, seat, card),
+            // Nothing else stands in its moment's row.
             _ => {}
         }
     }

@@ -81,7 +81,8 @@ impl Common {
     }
 }
 
-// The cards that a seat holds or that lie in the skat, rising.
+// The cards that a seat holds or that lie in the skat, rising. A count stands beside the array:
+// the copy goes by value, and no method of the library fills an array from a chain.
 pub(super) fn twelve_cards(piles: &[Pile; 32], seat: Seat) -> [Card; 12]
     ensures { result ≡ twelve_of seat piles.now }
 {

@@ -50,7 +50,8 @@ impl Common {
         }
     }
 
-    // A third card fills the trick: its taker has one trick more and leads next.
+    // A third card fills the trick: its taker has one trick more and leads next. That there are
+    // fewer than ten tricks is asked here and in `play`, since the record of a deal is plain.
     fn fills<K: Kind>(self, kind: &K, taker: Seat, a: Card, b: Card, card: Card) -> Common
         requires { self.board.taken.declarer + self.board.taken.defenders < 10 }
         ensures { result ≡ fills_by (K.Kind.meaning kind.now) self taker a b card }

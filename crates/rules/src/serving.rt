@@ -10,7 +10,8 @@ use cards::deck::Card;
 use cards::seats::Seat;
 use kinds::kind::Kind;
 
-// Whether a seat holds a card of a class.
+// Whether a seat holds a card of a class. Kind, piles and seat are no struct: only this function
+// and the next take all three.
 pub fn holds_class<K: Kind>(kind: &K, piles: &[Pile; 32], seat: Seat, class: u8) -> bool
     ensures { result ≡ any_of_class (K.Kind.meaning kind.now) class (marked (holding seat piles.now)) }
 {
