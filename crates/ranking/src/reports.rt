@@ -1,8 +1,8 @@
 // The report on the file of a list.
-ghost use Rattle.std.specs.Prelude.{◌≡◌, ◌++◌, IfOk, string_bytes, codes, decimal};
+ghost use Rattle.std.specs.Prelude.{◌≡◌, IfOk, string_bytes};
 ghost use Rattle.std.specs.List.{range_with_len, flat_map};
 ghost use Rattle.series.specs.Rows.{places_number};
-ghost use Rattle.ranking.specs.Reports.{line_text, place_text, IsStanding, IsReport};
+ghost use Rattle.ranking.specs.Reports.{place_text, IsStanding, IsReport};
 
 use super::places::{first_place, rank_of};
 use series::lists::{ClosedList, OpenList};

@@ -6,13 +6,13 @@ use Rattle.std.proofs.lemmas.Bool.{and_from, eqb-true, eqb-false, le-ltb, le-leb
 use Rattle.std.proofs.lemmas.List.Sums.{count_by-le-length}
 use Rattle.cards.specs.declared.refusals.Refusal.{Refusal}
 use Rattle.cards.specs.declared.refusals.Refusal.TheVariants.{FileTooShort, WrongTag, NotAList, RowNotAllowed, WrongGamesCount}
-use Rattle.cards.specs.Refusals.{topmost}
+use Rattle.cards.specs.Refusals.{topmost, answered}
 use Rattle.cards.proofs.Topmost.{none_from}
 use Rattle.series.specs.declared.rows.Places.{Places}
 use Rattle.series.specs.declared.rows.Places.TheVariants.{Three, Four}
 use Rattle.series.specs.declared.rows.Row.{Row}
 use Rattle.series.specs.Rows.{places_number, is_places, is_game, are_rows}
-use Rattle.series.specs.Format.{games, header, file_of, file_length, row_bytes, raw_of, raw_rows, are_raw_rows, is_raw_game, rows_field, games_field, offset_field, length_field, rows_in, is_tag, is_header, header_refusals, file_refusal, ReadBack}
+use Rattle.series.specs.Format.{games, header, file_of, file_length, row_bytes, raw_of, raw_rows, are_raw_rows, is_raw_game, rows_field, games_field, offset_field, length_field, rows_in, is_tag, is_header, header_refusals, file_refusal, ListRead, ReadBack}
 use Rattle.series.proofs.Blocks.{length_header, length_file}
 use Rattle.series.proofs.Rounds.{two_join, small_join, raws_of, bytes_of, raw_games, raws_good, same_rows}
 use Rattle.series.proofs.Headers.{HeaderFacts, header_facts, head_is, rows_refused, games_refused, accepted}
@@ -157,15 +157,11 @@ module _ (file : List ℕ) (ok : topmost (header_refusals file) ≡ None) (part 
           read_is file small facts places rows seats (rows_count rows long) rows_are (same ∙ said),
         )
 
--- what was written is read back, since it is the file of one list only
-pub read_back : (file : List ℕ) (q : Places) (s : List Row) → are_rows s ≡ true → file_of q s ≡ file → ReadBack file (Ok tt) q s
-read_back file q s fine whole = λ places rows good few is.
-    let same = file_same q places s rows fine good (whole ∙ is) in
-    (refl, same.0, same.1)
-
--- what is refused was not written
-pub not_written : (file : List ℕ) (refusal : Refusal) (answer : Result (Unit {0}) Refusal) (q : Places) (s : List Row) → file_refusal file ≡ Some refusal → ReadBack file answer q s
-not_written file refusal answer q s refused = λ places rows good few is.
-    let both : None ≡ Some refusal = sym (ap file_refusal is ∙ file_accepted places rows good few) ∙ refused in
-    let z : ◌≡◌ {A = ℕ} 0 1 = cc in
-    absurd (omega arith)
+-- what was written is read back
+pub read_back : (file : List ℕ) (answer : Result (Unit {0}) Refusal) (p q : Places) (r s : List Row) → are_rows s ≡ true → answer ≡ answered (file_refusal file) tt → ListRead file answer p r q s → ReadBack file answer q s
+read_back file answer p q r s fine said list = λ places rows good few is.
+    let none : file_refusal file ≡ None = ap file_refusal is ∙ file_accepted places rows good few in
+    let ok : answer ≡ Ok tt = said ∙ ap (λ o. answered o tt) none in
+    let new : ListRead file (Ok tt) p r q s = subst (λ a. ListRead file a p r q s) ok list in
+    let same = file_same q places s rows fine good (new.1 ∙ is) in
+    (ok, same.0, same.1)

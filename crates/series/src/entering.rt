@@ -2,7 +2,7 @@
 ghost use Rattle.std.specs.Prelude.{◌≡◌, ◌<◌, true, [], ◌∷◌, ◌++◌, vec_len, IfOk, MatchResult};
 ghost use Rattle.cards.specs.Refusals.{answered};
 ghost use Rattle.series.specs.declared.lists.NotOpened.TheVariants.{OutOfMemory};
-ghost use Rattle.series.specs.Rows.{places_number, is_row, entry_refusal, Entered};
+ghost use Rattle.series.specs.Rows.{is_row, entry_refusal, Entered};
 ghost use Rattle.series.specs.Opening.{IsEmpty, Opened};
 
 use super::lists::{BadPlaces, ClosedList, List, NotOpened, OpenList, Sheet};

@@ -1,8 +1,7 @@
 // Reading the file of a list.
-ghost use Rattle.std.specs.Prelude.{◌≡◌, ◌+◌, ◌*◌, ◌/◌, ◌<◌, ◌≤◌, true, false, map, length, take, drop, Some, None, MatchOption, ◌==◌};
+ghost use Rattle.std.specs.Prelude.{◌≡◌, ◌+◌, ◌<◌, ◌≤◌, length, drop, ◌==◌};
 ghost use Rattle.cards.specs.Refusals.{answered};
 ghost use Rattle.series.specs.Format.{games as games_of, two_at, four_at, is_tag, HeaderRead, RowRead, RowsRead, FileRead, file_refusal, ListRead, ReadBack};
-ghost use Rattle.series.specs.Rows.{is_row, are_rows};
 
 use super::lists::{ClosedList, Listed, Sheet};
 use super::rows::{MOST_ROWS, Places, Row};

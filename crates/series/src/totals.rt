@@ -1,7 +1,7 @@
 // What a list counts for a place.
-ghost use Rattle.std.specs.Prelude.{◌≡◌, ◌+◌, ◌*◌, ◌%◌, ◌<◌, ◌≤◌, true, length, pos, ◌+ℤ◌, neg_ℤ, ◌≤ℤ◌, Some, if◌then◌else◌};
+ghost use Rattle.std.specs.Prelude.{◌≡◌, ◌+◌, ◌*◌, ◌%◌, ◌<◌, ◌≤◌, true, pos, ◌+ℤ◌, neg_ℤ, ◌≤ℤ◌, Some, if◌then◌else◌};
 ghost use Rattle.series.specs.Lines.{totals_numbers};
-ghost use Rattle.series.specs.Rows.{places_number, points_of, is_row, are_rows};
+ghost use Rattle.series.specs.Rows.{places_number, points_of, is_row};
 ghost use Rattle.series.specs.Totals.{place_of as place_in, sits as sits_in, declares as declares_in, defends as defends_in, is_won, is_lost, counts_for, wins_in, loses_in, defends_loss_in, IsTally, rating_of, totals_answer};
 
 use super::lists::{List, Sheet};

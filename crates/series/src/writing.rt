@@ -2,10 +2,10 @@
 ghost use Rattle.std.specs.Prelude.{◌≡◌, ◌+◌, ◌*◌, ◌<◌, ◌≤◌, true, ◌++◌, length, drop};
 ghost use Rattle.std.specs.List.{flat_map};
 ghost use Rattle.series.specs.Format.{games, header, row_bytes, file_of, written, Written};
-ghost use Rattle.series.specs.Rows.{places_number, role_number, is_row, are_rows, is_game};
+ghost use Rattle.series.specs.Rows.{places_number, role_number, is_row, is_game};
 
 use super::lists::{ClosedList, Sheet};
-use super::rows::{Places, Row};
+use super::rows::Row;
 use cards::refusals::Refusal;
 
 impl Row {
