@@ -173,7 +173,8 @@ impl Tally {
 }
 
 impl Sheet {
-    // What the rows count for a place.
+    // What the rows count for a place. The sum of points has a sign, so that it stays in its
+    // bounds is shown row by row.
     fn tally(&self, place: usize) -> Tally
         ensures { IsTally (places_number self.now.places) place self.now.rows.items result }
     {
