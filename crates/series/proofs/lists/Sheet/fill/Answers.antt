@@ -6,11 +6,6 @@ use Rattle.series.specs.Format.{games, header, row_bytes}
 use Rattle.series.proofs.Blocks.{length_header, length_rows, length_file, file_put}
 use Rattle.series.proofs.lists.Sheet.fill.Goals as goal
 
-pub slice_bounds-copy_from_slice-end : goal.slice_bounds-copy_from_slice-end
-slice_bounds-copy_from_slice-end c =
-    let sheet = c.args.self.now in
-    omega (arith, c.requires, length_file sheet.places (vec_items sheet.rows))
-
 pub write_rows-requires : goal.write_rows-requires
 write_rows-requires c =
     let sheet = c.args.self.now in
