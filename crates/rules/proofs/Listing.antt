@@ -1,95 +1,88 @@
--- Cards listed one by one into a fixed number of places, for the copy of the declarer's twelve cards.
-use Rattle.std.proofs.Common.{◌≡◌, ℕ, zero, suc, ◌+◌, ◌<◌, ◌≤◌, Bool, true, false, cond, List, [], ◌∷◌, ◌++◌, map, length, get_or, take, set, replicate, sym, refl, ap, ◌∙◌, add-zero, arith}
-use Rattle.std.proofs.lemmas.List.{append-nil, append_assoc, map-append, map_more, length-map, length_push, length-take-le, take_all, take-append-le, take-replicate}
+-- The declarer's cards listed into a fixed number of places, for `twelve_cards`.
+use Rattle.std.proofs.Common.{◌≡◌, ℕ, zero, suc, ◌+◌, ◌-◌, ◌<◌, ◌≤◌, Bool, true, false, cond, List, [], ◌∷◌, ◌++◌, map, length, take, set, replicate, get_or, Some, None, Option, refl, sym, ap, ◌∙◌, add-one, arith}
+use Rattle.std.proofs.lemmas.List.{length-map, length_push, map-append, take-map, take-replicate}
+use Rattle.std.proofs.lemmas.Simd.{map-map}
+use Rattle.std.proofs.Math.ListN.{length-take}
+use Rattle.std.proofs.lemmas.Iterator.{YieldsList}
+use Rattle.std.proofs.lemmas.Iterator.Consumers.{YieldsList-turn, YieldsList-end}
+use Rattle.std.specs.Iterator.{Yields}
+use Rattle.std.specs.List.{range_with_len, zip, filter, enumerate_from}
 use Rattle.cards.specs.declared.deck.Card.{Card}
 use Rattle.cards.specs.declared.seats.Seat.{Seat}
 use Rattle.cards.specs.Deck.{card_at}
 use Rattle.rules.specs.declared.deals.Pile.{Pile}
-use Rattle.rules.specs.Piles.{is_held_or_in_skat, marked, marked_from, padded, hand_and_skat}
+use Rattle.rules.specs.Piles.{is_held_or_in_skat, marked_from, hand_and_skat}
 use Rattle.rules.specs.Steps.{twelve_of}
 
--- one mark more
-marked_push : (n : ℕ) (marks : List Bool) (mark : Bool) → marked_from n (marks ++ mark ∷ []) ≡ marked_from n marks ++ cond mark ((n + length marks) ∷ []) []
-marked_push n [] true = ap (λ k. k ∷ []) (sym (add-zero n))
-marked_push n [] false = refl
-marked_push n (true ∷ marks) mark =
-    let e : suc n + length marks ≡ n + suc (length marks) = omega arith in
-    ap (λ ys. n ∷ ys) (marked_push (suc n) marks mark ∙ ap (λ k. marked_from (suc n) marks ++ cond mark (k ∷ []) []) e)
-marked_push n (false ∷ marks) mark =
-    let e : suc n + length marks ≡ n + suc (length marks) = omega arith in
-    marked_push (suc n) marks mark ∙ ap (λ k. marked_from (suc n) marks ++ cond mark (k ∷ []) []) e
+-- one item more, where there is room for it
+filled_more : {A : Type 0} (filler item : A) (room : ℕ) (items : List A) → set (items ++ replicate (suc room) filler) (length items) item ≡ (items ++ item ∷ []) ++ replicate room filler
+filled_more filler item room [] = refl
+filled_more filler item room (x ∷ items) = ap (λ ys. x ∷ ys) (filled_more filler item room items)
 
--- one item more, where there is room for it and where there is none
-push_within : {A : Type 0} (filler item : A) (room more : ℕ) (items : List A) → room ≤ more → length items < room → take room ((items ++ item ∷ []) ++ replicate more filler) ≡ set (take room (items ++ replicate more filler)) (length items) item
-push_within filler item (suc room) (suc more) [] le lt =
-    ap (λ ys. item ∷ ys) (take-replicate room (suc more) filler (omega arith) ∙ sym (take-replicate room more filler (omega arith)))
-push_within filler item (suc room) zero [] le lt = absurd (omega arith)
-push_within filler item zero more [] le lt = absurd (omega arith)
-push_within filler item zero more (x ∷ items) le lt = absurd (omega arith)
-push_within filler item (suc room) more (x ∷ items) le lt = ap (λ ys. x ∷ ys) (push_within filler item room more items (omega arith) (omega arith))
+pub filled_next : {A B : Type 0} (filler : B) (f : A → B) (room : ℕ) (items : List A) (next : A) (place : ℕ) (now : List B) → place ≡ length items → length items < room → now ≡ map f items ++ replicate (room - length items) filler → set now place (f next) ≡ map f (items ++ next ∷ []) ++ replicate (room - length (items ++ next ∷ [])) filler
+filled_next filler f room items next place now at lt is =
+    let rest = room - suc (length items) in
+    let before : room - length items ≡ suc rest = omega arith in
+    let after : rest ≡ room - length (items ++ next ∷ []) = omega (arith, length_push items next) in
+    let here : place ≡ length (map f items) = omega (arith, length-map items f) in
+    (λ i. set (is i) (here i) (f next))
+    ∙ (ap (λ k. set (map f items ++ replicate k filler) (length (map f items)) (f next)) before
+    ∙ (filled_more filler (f next) rest (map f items)
+    ∙ (λ i. sym (map-append f items (next ∷ [])) i ++ replicate (after i) filler)))
 
-push_past : {A : Type 0} (filler item : A) (room : ℕ) (items : List A) → room ≤ length items → padded room filler (items ++ item ∷ []) ≡ padded room filler items
-push_past filler item room items le =
-    ap (take room) (append_assoc items (item ∷ []) (replicate room filler))
-    ∙ (take-append-le room items (item ∷ replicate room filler) le
-    ∙ sym (take-append-le room items (replicate room filler) le))
+-- as many items as there is room for, and the filler behind them
+filled_up : {A : Type 0} (filler : A) (room more rest : ℕ) (items : List A) → room ≤ more → rest + length (take room items) ≡ room → take room (items ++ replicate more filler) ≡ take room items ++ replicate rest filler
+filled_up filler zero more rest items le e = let none : 0 ≡ rest = omega arith in ap (λ k. replicate k filler) none
+filled_up filler (suc room) more rest [] le e = let all : suc room ≡ rest = omega arith in take-replicate (suc room) more filler le ∙ ap (λ k. replicate k filler) all
+filled_up filler (suc room) more rest (x ∷ items) le e = ap (λ ys. x ∷ ys) (filled_up filler room more rest items (omega arith) (omega arith))
 
--- the first cards are gone through, and those in the hand or the skat listed while there is room
-pub record Listed (seat : Seat) (piles : List Pile) (i count : ℕ) (twelve : List Card) : Type 0 where
-  pub counted : count ≤ length (hand_and_skat seat (take i piles))
-  pub exact : count < 12 → count ≡ length (hand_and_skat seat (take i piles))
-  pub listed : twelve ≡ padded 12 (card_at 0) (hand_and_skat seat (take i piles))
+-- a loop over a chain, whose steps are told before the chain
+pub turn_on : {S A B : Type 0} {steps : S → Option A → S → Type 0} {v : A → B} {s : S} {all : List B} (xs : List A) (t : S) (y : Yields steps s xs t) → YieldsList steps v s all → (r : Option A) (u : S) (x : A) → r ≡ Some x → steps t r u → (length xs < length all) × (v x ≡ get_or all (length xs) (v x))
+turn_on xs t y road = YieldsList-turn road xs t y
 
-pub listed_all : (seat : Seat) (piles : List Pile) (i count : ℕ) (twelve : List Card) → length piles ≤ i → Listed seat piles i count twelve → twelve ≡ twelve_of seat piles
-listed_all seat piles i count twelve le sofar = sofar.listed ∙ ap (twelve_of seat) (take_all i piles le)
+pub end_on : {S A B : Type 0} {steps : S → Option A → S → Type 0} {v : A → B} {s : S} {all : List B} (xs : List A) (t : S) (y : Yields steps s xs t) → YieldsList steps v s all → (r : Option A) (u : S) → r ≡ None → steps t r u → (map v xs ≡ all) × (length xs ≡ length all)
+end_on xs t y road = YieldsList-end road xs t y
 
-module _ (seat : Seat) (piles : List Pile) (i count : ℕ) (twelve : List Card) (d : Pile) (within : i < length piles) (sofar : Listed seat piles i count twelve) where
-  more : (mark : Bool) → is_held_or_in_skat seat (get_or piles i d) ≡ mark → hand_and_skat seat (take (i + 1) piles) ≡ hand_and_skat seat (take i piles) ++ cond mark (card_at i ∷ []) []
-  more mark is =
-      let marks = map (is_held_or_in_skat seat) (take i piles) in
-      let far : 0 + length marks ≡ i = omega (arith, length-map (take i piles) (is_held_or_in_skat seat), length-take-le i piles (omega arith)) in
-      ap (λ ms. map card_at (marked ms)) (map_more (is_held_or_in_skat seat) piles i d within)
-      ∙ (ap (map card_at) (marked_push 0 marks (is_held_or_in_skat seat (get_or piles i d)))
-      ∙ (ap (λ k. map card_at (marked marks ++ cond (is_held_or_in_skat seat (get_or piles i d)) (k ∷ []) [])) far
-      ∙ (ap (λ b. map card_at (marked marks ++ cond b (i ∷ []) [])) is ∙ split mark)))
-    where
-      split : (mark : Bool) → map card_at (marked (map (is_held_or_in_skat seat) (take i piles)) ++ cond mark (i ∷ []) []) ≡ hand_and_skat seat (take i piles) ++ cond mark (card_at i ∷ []) []
-      split true = map-append card_at (marked (map (is_held_or_in_skat seat) (take i piles))) (i ∷ [])
-      split false = map-append card_at (marked (map (is_held_or_in_skat seat) (take i piles))) []
+-- what `enumerate` numbers
+pub numbered : {A : Type 0} (n : ℕ) (items : List A) → map (λ (p : ℕ × A). p.1) (enumerate_from n items) ≡ items
+numbered n [] = refl
+numbered n (x ∷ items) = ap (λ ys. x ∷ ys) (numbered (n + 1) items)
 
-  -- how the next card counts: the list after it, and the list's length
-  longer : true ≡ is_held_or_in_skat seat (get_or piles i d) → length (hand_and_skat seat (take (i + 1) piles)) ≡ length (hand_and_skat seat (take i piles)) + 1
-  longer is = ap length (more true (sym is)) ∙ length_push (hand_and_skat seat (take i piles)) (card_at i)
+module _ (seat : Seat) where
+  abbrev pub is_own : Pile × Card → Bool
+  is_own item = is_held_or_in_skat seat item.0
 
-  pub listed_card : (card : Card) → true ≡ is_held_or_in_skat seat (get_or piles i d) → count < 12 → card ≡ card_at i → Listed seat piles (i + 1) (count + 1) (set twelve count card)
-  listed_card card is room names =
-      let here = sofar.exact room in
-      record {
-        counted = omega (arith, longer is);
-        exact = λ _. omega (arith, longer is);
-        listed =
-            ap (set twelve count) names
-            ∙ (ap (λ n. set twelve n (card_at i)) here
-            ∙ (ap (λ cards. set cards (length (hand_and_skat seat (take i piles))) (card_at i)) sofar.listed
-            ∙ sym (ap (padded 12 (card_at 0)) (more true (sym is))
-            ∙ push_within (card_at 0) (card_at i) 12 12 (hand_and_skat seat (take i piles)) (omega arith) (omega arith))));
-      }
+  abbrev pub own_from : ℕ → List Pile → List (Pile × Card)
+  own_from n piles = filter is_own (zip piles (map card_at (range_with_len n (length piles))))
 
-  pub listed_full : true ≡ is_held_or_in_skat seat (get_or piles i d) → 12 ≤ count → Listed seat piles (i + 1) count twelve
-  listed_full is full = record {
-    counted = omega (arith, longer is, sofar.counted);
-    exact = λ room. absurd (omega arith);
-    listed =
-        sofar.listed
-        ∙ sym (ap (padded 12 (card_at 0)) (more true (sym is))
-        ∙ push_past (card_at 0) (card_at i) 12 (hand_and_skat seat (take i piles)) (omega (arith, sofar.counted)));
-  }
+  -- the cards from a number on
+  own_split : (pile : Pile) (n : ℕ) (later : List (Pile × Card)) (marks : List ℕ) → map (λ (item : Pile × Card). item.1) later ≡ map card_at marks → (own : Bool) → map (λ (item : Pile × Card). item.1) (cond own ((pile, card_at n) ∷ later) later) ≡ map card_at (cond own (n ∷ marks) marks)
+  own_split pile n later marks e true = ap (λ cards. card_at n ∷ cards) e
+  own_split pile n later marks e false = e
 
-  pub listed_other : false ≡ is_held_or_in_skat seat (get_or piles i d) → Listed seat piles (i + 1) count twelve
-  listed_other is =
-      let same : hand_and_skat seat (take (i + 1) piles) ≡ hand_and_skat seat (take i piles) = more false (sym is) ∙ append-nil (hand_and_skat seat (take i piles)) in
-      record {
-        counted = omega (arith, ap length same, sofar.counted);
-        exact = λ room. sofar.exact room ∙ sym (ap length same);
-        listed = sofar.listed ∙ sym (ap (padded 12 (card_at 0)) same);
-      }
+  pub own_cards : (n : ℕ) (piles : List Pile) → map (λ (item : Pile × Card). item.1) (own_from n piles) ≡ map card_at (marked_from n (map (is_held_or_in_skat seat) piles))
+  own_cards n [] = refl
+  own_cards n (pile ∷ piles) =
+      let later = filter is_own (zip piles (map card_at (range_with_len (n + 1) (length piles)))) in
+      own_split pile n later (marked_from (suc n) (map (is_held_or_in_skat seat) piles)) (ap (λ k. map (λ (item : Pile × Card). item.1) (own_from k piles)) (add-one n) ∙ own_cards (suc n) piles) (is_held_or_in_skat seat pile)
+
+  -- what a loop over these cards has listed at its end
+  pub listed_all : {I : Type 0} (v : I → ℕ × (Pile × Card)) (piles : List Pile) (deck : List Card) (items : List I) (twelve : List Card) → length piles ≡ 32 → deck ≡ map card_at (range_with_len 0 32) → map v items ≡ enumerate_from 0 (take 12 (filter is_own (zip piles deck))) → twelve ≡ map (λ item. (v item).1.1) items ++ replicate (12 - length items) (card_at 0) → twelve ≡ twelve_of seat piles
+  listed_all {I} v piles deck items twelve long of shown is =
+      let second = λ (item : Pile × Card). item.1 in
+      let own = filter is_own (zip piles deck) in
+      let hand = hand_and_skat seat piles in
+      let cards = map (λ (item : I). (v item).1.1) items in
+      let named : map second own ≡ hand =
+      ap (λ d. map second (filter is_own (zip piles d))) of
+      ∙ (ap (λ n. map second (filter is_own (zip piles (map card_at (range_with_len 0 n))))) (sym long) ∙ own_cards 0 piles) in
+      let first : cards ≡ take 12 hand =
+      sym (map-map (λ (p : ℕ × (Pile × Card)). p.1.1) v items)
+      ∙ (ap (map (λ (p : ℕ × (Pile × Card)). p.1.1)) shown
+      ∙ (sym (map-map second (λ (p : ℕ × (Pile × Card)). p.1) (enumerate_from 0 (take 12 own)))
+      ∙ (ap (map second) (numbered 0 (take 12 own)) ∙ (sym (take-map second 12 own) ∙ ap (take 12) named)))) in
+      let many : length cards ≡ length items = length-map items (λ (item : I). (v item).1.1) in
+      let whole : (12 - length items) + length (take 12 hand) ≡ 12 = omega (arith, many, ap length first, length-take 12 hand) in
+      is
+      ∙ (ap (λ listed. listed ++ replicate (12 - length items) (card_at 0)) first
+      ∙ sym (filled_up (card_at 0) 12 12 (12 - length items) hand (omega arith) whole))

@@ -81,19 +81,16 @@ impl Common {
     }
 }
 
-// The cards that a seat holds or that lie in the skat, rising. A count stands beside the array:
-// the copy goes by value, and no method of the library fills an array from a chain.
+// The first twelve cards that a seat holds or that lie in the skat, rising.
 pub(super) fn twelve_cards(piles: &[Pile; 32], seat: Seat) -> [Card; 12]
     ensures { result ≡ twelve_of seat piles.now }
 {
-    let mut twelve = [LOWEST; 12];
-    let mut count = 0;
     let deck = Card::deck();
-    for (pile, card) in piles.iter().zip(&deck) {
-        if pile.is_held_or_in_skat(seat) && count < 12 {
-            twelve[count] = *card;
-            count += 1;
-        }
+    let cards = piles.iter().zip(&deck);
+    let own = cards.filter(|(pile, _)| pile.is_held_or_in_skat(seat));
+    let mut twelve = [LOWEST; 12];
+    for (place, (_, card)) in own.take(12).enumerate() {
+        twelve[place] = *card;
     }
     twelve
 }

@@ -1,37 +1,31 @@
-use Rattle.std.proofs.Common.{◌≡◌, ap, arith, get_or, length, rules, ◌∙◌}
-use Rattle.std.proofs.lemmas.List.{length_push}
-use Rattle.std.proofs.lemmas.List.FromFn.{get_or-map-range_with_len}
-use Rattle.std.proofs.lemmas.Slice.Zip.{zip_turn, zip_end}
+use Rattle.std.proofs.Common.{◌≡◌, ◌+◌, ◌<◌, take, ap, arith, length, rules, ◌∙◌}
+use Rattle.std.proofs.lemmas.Iterator.{YieldsList-from_slice, YieldsList-from_zip, YieldsList-from_take}
+use Rattle.std.proofs.lemmas.Iterator.Consumers.{YieldsList-at, YieldsList-from_filter, YieldsList-from_enumerate}
+use Rattle.std.proofs.lemmas.List.{length-take}
+use Rattle.std.proofs.lemmas.List.FromFn.{length-enumerate_from, get_or-enumerate_from}
+use Rattle.std.specs.List.{zip, filter}
+use borrow.Author.Tests.{tests}
 use Rattle.cards.specs.Deck.{card_at}
-use Rattle.rules.specs.declared.deals.Pile.TheVariants.{InSkat}
-use Rattle.rules.specs.Piles.{is_held_or_in_skat}
-use Rattle.rules.proofs.Listing.{listed_card, listed_full, listed_other, listed_all}
+use Rattle.rules.proofs.Listing.{is_own, filled_next, listed_all, turn_on, end_on}
 use Rattle.rules.proofs.announcing.twelve_cards.Goals as goal
-use Rattle.rules.proofs.announcing.twelve_cards.Goals.{else-is_held_or_in_skat-via-then-is_held_or_in_skat+else-count-lt12, else-is_held_or_in_skat-via-else-is_held_or_in_skat}
 
-pub loop-pile-preserved-then-count-lt12 : goal.loop-pile-preserved-then-count-lt12
-loop-pile-preserved-then-count-lt12 c =
-    let l = c.loop-pile in
-    let turn = zip_turn c.args.piles.now c.deck-deck.result l.yielded _ l.pile-iterator c.next.new.self c.next.result (search rules) (search rules) l.yielded_by _ c.in-Some.is c.next.ensures.steps in
-    let held = c.if-is_held_or_in_skat.ensures ∙ ap (is_held_or_in_skat c.args.seat) (turn.2 InSkat) in
-    let named = turn.3 (card_at 0) ∙ (ap (λ cards. get_or cards (length l.yielded) (card_at 0)) c.deck-deck.ensures ∙ get_or-map-range_with_len card_at 0 32 (length l.yielded) (length l.yielded) (card_at 0) (omega arith) (omega arith)) in
-    rw length_push (listed_card c.args.seat c.args.piles.now (length l.yielded) l.count l.twelve InSkat turn.0 l.invariant c.in-Some.card.now held c.if-count-lt12.true named)
-
-pub loop-pile-preserved : goal.loop-pile-preserved
-loop-pile-preserved c =
-    let l = c.loop-pile in
-    let turn = zip_turn c.args.piles.now c.deck-deck.result l.yielded _ l.pile-iterator c.next.new.self c.next.result (search rules) (search rules) l.yielded_by _ c.in-Some.is c.next.ensures.steps in
-    let at = ap (is_held_or_in_skat c.args.seat) (turn.2 InSkat) in
-    rw length_push (elim c.else-is_held_or_in_skat.branch [
-      | else-is_held_or_in_skat-via-then-is_held_or_in_skat+else-count-lt12 w ↦
-          listed_full c.args.seat c.args.piles.now (length l.yielded) l.count l.twelve InSkat turn.0 l.invariant (w.if-is_held_or_in_skat.ensures ∙ at) w.if-count-lt12.false
-      | else-is_held_or_in_skat-via-else-is_held_or_in_skat w ↦
-          listed_other c.args.seat c.args.piles.now (length l.yielded) l.count l.twelve InSkat turn.0 l.invariant (w.if-is_held_or_in_skat.ensures ∙ at)
-    ])
+pub loop-place-preserved : goal.loop-place-preserved
+loop-place-preserved c =
+    let l = c.loop-place in
+    let own = filter (is_own c.args.seat) (zip c.args.piles.now c.deck-deck.result) in
+    let turn = turn_on l.yielded l.place-iterator l.yielded_by
+    (YieldsList-at c.into_iter-place-iterator.ensures.into_iter_gives (YieldsList-from_enumerate (YieldsList-at c.enumerate-place-items.ensures.source (YieldsList-from_take 12 (YieldsList-at c.take.ensures.source (YieldsList-from_filter _ (is_own c.args.seat) (YieldsList-from_zip (YieldsList-from_slice c.args.piles.now (search rules)) (YieldsList-from_slice c.deck-deck.result (search rules))) c.filter-own.ensures.closure (λ x b q k. search (rules, tests)))) c.take.ensures.count)) c.enumerate-place-items.ensures.count))
+    c.next.result c.next.new.self _ c.in-Some.is c.next.ensures.steps in
+    let short : length l.yielded < length (take 12 own) = omega (arith, turn.0, length-enumerate_from 0 (take 12 own)) in
+    let numbered : c.in-Some.place ≡ 0 + length l.yielded = ap (λ p. p.0) (turn.1 ∙ get_or-enumerate_from 0 (take 12 own) (length l.yielded) _ short) in
+    let place : c.in-Some.place ≡ length l.yielded = omega arith in
+    filled_next (card_at 0) (λ item. item.1.1.now) 12 l.yielded (c.in-Some.place, (c.in-Some.field-0-1-0, c.in-Some.card)) c.in-Some.place l.twelve place (omega (arith, short, length-take 12 own)) l.invariant
 
 pub returns : goal.returns
 returns c =
-    let l = c.loop-pile in
-    let end = zip_end c.args.piles.now c.deck-deck.result l.yielded _ l.pile-iterator c.next.new.self c.next.result (search rules) (search rules) l.yielded_by c.in-None.is c.next.ensures.steps in
-    let many : length c.deck-deck.result ≡ 32 = search rules in
-    listed_all c.args.seat c.args.piles.now (length l.yielded) l.count l.twelve (omega arith) l.invariant
+    let l = c.loop-place in
+    let end = end_on l.yielded l.place-iterator l.yielded_by
+    (YieldsList-at c.into_iter-place-iterator.ensures.into_iter_gives (YieldsList-from_enumerate (YieldsList-at c.enumerate-place-items.ensures.source (YieldsList-from_take 12 (YieldsList-at c.take.ensures.source (YieldsList-from_filter _ (is_own c.args.seat) (YieldsList-from_zip (YieldsList-from_slice c.args.piles.now (search rules)) (YieldsList-from_slice c.deck-deck.result (search rules))) c.filter-own.ensures.closure (λ x b q k. search (rules, tests)))) c.take.ensures.count)) c.enumerate-place-items.ensures.count))
+    c.next.result c.next.new.self c.in-None.is c.next.ensures.steps in
+    let long : length c.args.piles.now ≡ 32 = search rules in
+    listed_all c.args.seat _ c.args.piles.now c.deck-deck.result l.yielded l.twelve long c.deck-deck.ensures end.0 l.invariant
