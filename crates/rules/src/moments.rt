@@ -29,13 +29,6 @@ impl From<Moment> for u8 {
 }
 
 impl Moment {
-    // The moment's number.
-    pub fn number(self) -> u8
-        ensures { result ≡ moment_number self }
-    {
-        u8::from(self)
-    }
-
     // Whether the deal waits for nothing more.
     pub fn is_settled(self) -> bool
         ensures { result ≡ is_at 7 self }

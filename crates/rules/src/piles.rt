@@ -1,20 +1,13 @@
 // What a pile says of a card, how cards move between piles, and who the declarer is.
 ghost use Rattle.std.specs.Prelude.{◌≡◌, ◌<◌, false, slice_index_or};
 ghost use Rattle.cards.specs.Deck.{card_number};
-ghost use Rattle.rules.specs.Piles.{is_seat, is_held, is_in_skat, is_held_or_in_skat, holding};
+ghost use Rattle.rules.specs.Piles.{is_held, is_in_skat, is_held_or_in_skat, holding};
 ghost use Rattle.rules.specs.Steps.{lifted as lifted_to, gathered as gathered_for};
-ghost use Rattle.rules.specs.Board.{declarer_of, is_the, is_declarer};
+ghost use Rattle.rules.specs.Board.{declarer_of, is_declarer};
 
 use super::deals::{Contract, Pile};
 use cards::deck::Card;
 use cards::seats::Seat;
-
-// Whether two seats are one.
-pub fn is_same_seat(a: Seat, b: Seat) -> bool
-    ensures { result ≡ is_seat a b }
-{
-    a == b
-}
 
 impl Pile {
     // Whether a card here is in this seat's hand.

@@ -1,5 +1,5 @@
 // What an acting call is refused for, and what it comes to otherwise.
-ghost use Rattle.std.specs.Prelude.{◌≡◌, Bool, List};
+ghost use Rattle.std.specs.Prelude.{Bool, List};
 ghost use Rattle.cards.specs.Refusals.{topmost};
 ghost use Rattle.kinds.specs.Meanings.{Meaning};
 ghost use Rattle.rules.specs.declared.calls.Call.TheVariants.{Put, Play};
