@@ -131,9 +131,6 @@ module _ (file : List ℕ) (ok : topmost (header_refusals file) ≡ None) (part 
         let rest : length part ≡ length file - offset = ap length is ∙ length-drop offset file in
         omega (arith, facts.offset, facts.rows, facts.whole)
 
-    pub rows_few : length rows ≤ 48
-    rows_few = let facts = header_facts file ok in omega (arith, facts.few, rows_count)
-
   module _ (rows : List Row) (raws : raw_rows part ≡ map raw_of rows) (fine : are_rows rows ≡ true) (stated : ℕ) {right : Bool} (told : right ≡ eqb (games rows) stated) (said : stated ≡ games_field file) where
     rows_are : rows_in file ≡ map raw_of rows
     rows_are = sym in_part ∙ raws
