@@ -1,8 +1,8 @@
--- The eyes of a side, card by card, for `eyes_of_sides`.
-use Rattle.std.proofs.Common.{◌≡◌, ℕ, ◌+◌, ◌<◌, ◌≤◌, Bool, true, false, cond, List, [], ◌∷◌, length, get_or, take, sum_by, sym, refl, ap, ◌∙◌, zero-add, arith}
+-- The eyes of a side, card by card, for `eyes_where`.
+use Rattle.std.proofs.Common.{◌≡◌, ℕ, ◌+◌, ◌<◌, ◌≤◌, Bool, true, false, cond, List, [], ◌∷◌, length, map, get_or, take, sum_by, sym, refl, ap, ◌∙◌, arith}
 use Rattle.std.specs.List.{range_with_len}
-use Rattle.std.proofs.lemmas.List.FromFn.{get_or-range_with_len}
-use Rattle.std.proofs.lemmas.List.{get_or_default, get_or-map, take_all}
+use Rattle.std.proofs.lemmas.List.FromFn.{get_or-map-range_with_len}
+use Rattle.std.proofs.lemmas.List.{take_all}
 use Rattle.std.proofs.lemmas.List.Sums.{sum_by-cons, sum_by_more, sum_by-take-le}
 use Rattle.cards.specs.declared.deck.Card.{Card}
 use Rattle.cards.specs.Deck.{card_at, eyes_of}
@@ -27,16 +27,24 @@ module _ (counts : Pile → Bool) (piles : List Pile) where
   unfolding eyes_below deck
   eyes_all n end = ap (sum_by eyes_here) (take_all n deck end)
 
-  pub eyes_more : (n : ℕ) (card : Card) (pile : Pile) (counted : Bool) (eyes : ℕ) → length piles ≡ 32 → n < 32 → card ≡ card_at n → counted ≡ counts (get_or piles n pile) → eyes ≡ cond counted (eyes_of card) 0
-      → eyes_below (n + 1) ≡ eyes_below n + eyes
-  unfolding eyes_below deck
-  eyes_more n card pile counted eyes long low is lies adds =
-      let at : get_or deck n (card_at 0) ≡ card_at n = get_or-map card_at (range_with_len 0 32) n 0 (card_at 0) low ∙ ap card_at (get_or-range_with_len 0 32 n 0 low ∙ zero-add n) in
-      let there : get_or piles n pile ≡ pile_in piles (card_at n) = get_or_default piles n pile InSkat (omega arith) ∙ ap (λ k. get_or piles k InSkat) (sym (number_at n low)) in
-      sum_by_more eyes_here deck n (card_at 0) low
-      ∙ ap (λ k. sum_by eyes_here (take n deck) + k)
-      (ap eyes_here at
-      ∙ sym (adds ∙ (λ i. cond ((lies ∙ ap counts there) i) (eyes_of (is i)) 0)))
+  -- a card and its pile, as they stand in the lists of all
+  module _ (cards : List Card) (all : cards ≡ map card_at (range_with_len 0 32)) (long : length piles ≡ 32) (n : ℕ) (low : n < 32) (pile : Pile) (lies : pile ≡ get_or piles n InSkat) (card : Card) (named : card ≡ get_or cards n (card_at 0)) where
+    more : (counted : Bool) → counted ≡ counts pile → eyes_below (n + 1) ≡ eyes_below n + cond counted (eyes_of card) 0
+    unfolding eyes_below deck
+    more counted is =
+        let at : get_or deck n (card_at 0) ≡ card_at n = get_or-map-range_with_len card_at 0 32 n n (card_at 0) low (omega arith) in
+        let here : card ≡ card_at n = named ∙ (ap (λ cs. get_or cs n (card_at 0)) all ∙ at) in
+        let there : pile ≡ pile_in piles (card_at n) = lies ∙ ap (λ k. get_or piles k InSkat) (sym (number_at n low)) in
+        sum_by_more eyes_here deck n (card_at 0) low
+        ∙ ap (λ k. sum_by eyes_here (take n deck) + k)
+        (ap eyes_here at
+        ∙ sym ((λ i. cond ((is ∙ ap counts there) i) (eyes_of (here i)) 0)))
+
+    pub eyes_yes : true ≡ counts pile → eyes_below (n + 1) ≡ eyes_below n + eyes_of card
+    eyes_yes is = more true is
+
+    pub eyes_no : false ≡ counts pile → eyes_below (n + 1) ≡ eyes_below n
+    eyes_no is = omega (arith, more false is)
 
   most : (cards : List Card) → sum_by eyes_here cards ≤ sum_by eyes_of cards
   most [] = omega arith

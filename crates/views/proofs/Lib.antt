@@ -2,5 +2,4 @@ mod Counting
 mod Listing
 mod Parting
 mod Permitting
-mod Serving
 mod Settling

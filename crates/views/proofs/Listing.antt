@@ -1,32 +1,17 @@
 -- Marks of cards, and their listing by number, for the functions on hands.
-use Rattle.std.proofs.Common.{◌≡◌, ℕ, zero, suc, ◌+◌, ◌<◌, ◌≤◌, min, Bool, true, false, cond, List, [], ◌∷◌, ◌++◌, map, length, get_or, take, set, replicate, sym, refl, ap, ◌∙◌, ⊎_elim, add-zero, arith}
-use Rattle.std.proofs.lemmas.List.{append_assoc, append-nil, ext_get_or, get_or-map, get_or-set_other, get_or-set_same, length-append, length-map, length-set, length-take-le, take_all, take-append-le, take_more, take-replicate}
-use Rattle.std.proofs.lemmas.Bool.{cases_eq}
-use Rattle.rules.specs.declared.deals.Pile.{Pile}
+use Rattle.std.proofs.Common.{◌≡◌, ℕ, zero, suc, ◌+◌, ◌<◌, ◌≤◌, min, Bool, true, false, cond, List, [], ◌∷◌, ◌++◌, length, get_or, take, set, replicate, sym, refl, ap, ◌∙◌, count_by, filter, add-zero, arith}
+use Rattle.std.proofs.lemmas.List.{append_assoc, append-nil, length-append, length-take-le, take-append-le, take_more, take-replicate}
+use Rattle.std.proofs.lemmas.List.Sums.{length-filter}
 use Rattle.rules.specs.Piles.{marked, marked_from, padded}
 
--- the first i marks say of their piles what is asked
-abbrev pub Marked : (Pile → Bool) → List Pile → ℕ → List Bool → Type 0
-Marked says piles i marks = (length marks ≡ 32) × ((k : ℕ) → k < i → get_or marks k false ≡ get_or (map says piles) k false)
+-- as many cards are listed as are marked
+marked_length : (n : ℕ) (marks : List Bool) → length (marked_from n marks) ≡ length (filter (λ mark. mark) marks)
+marked_length n [] = refl
+marked_length n (true ∷ marks) = ap suc (marked_length (suc n) marks)
+marked_length n (false ∷ marks) = marked_length (suc n) marks
 
-module _ (says : Pile → Bool) (piles : List Pile) (i : ℕ) (marks : List Bool) (long : length piles ≡ 32) (sofar : Marked says piles i marks) where
-  pub marks_more : (mark : Bool) (pile : Pile) → i < 32 → mark ≡ says (get_or piles i pile) → Marked says piles (i + 1) (set marks i mark)
-  marks_more mark pile within is = (
-    length-set marks i mark ∙ sofar.0,
-    (λ k h. ⊎_elim
-        (λ e.
-        ap (λ j. get_or (set marks i mark) j false) e
-        ∙ (get_or-set_same marks i mark false (omega (arith, sofar.0))
-        ∙ (is
-        ∙ (sym (get_or-map says piles i pile false (omega arith))
-        ∙ ap (λ j. get_or (map says piles) j false) (sym e)))))
-        (λ ne. get_or-set_other marks i k mark false ne ∙ sofar.1 k (omega arith))
-        (cases_eq k i)),
-  )
-
-  pub marks_all : 32 ≤ i → marks ≡ map says piles
-  marks_all end =
-      ext_get_or false marks (map says piles) (sofar.0 ∙ sym (length-map piles says ∙ long)) (λ k h. sofar.1 k (omega (arith, sofar.0)))
+pub marked_count : (marks : List Bool) → count_by (λ mark. mark) marks ≡ length (marked marks)
+marked_count marks = sym (marked_length 0 marks ∙ length-filter (λ mark. mark) marks)
 
 -- one more mark behind others
 marked_push : (n : ℕ) (marks : List Bool) (mark : Bool) → marked_from n (marks ++ mark ∷ []) ≡ marked_from n marks ++ cond mark ((n + length marks) ∷ []) []
@@ -48,14 +33,11 @@ module _ (marks : List Bool) (i : ℕ) (within : i < length marks) where
       ∙ (ap (λ k. marked (take i marks) ++ cond (get_or marks i false) (k ∷ []) []) at
       ∙ ap (λ b. marked (take i marks) ++ cond b (i ∷ []) []) is))
 
-  pub marked_yes : get_or marks i false ≡ true → marked (take (i + 1) marks) ≡ marked (take i marks) ++ i ∷ []
+  marked_yes : get_or marks i false ≡ true → marked (take (i + 1) marks) ≡ marked (take i marks) ++ i ∷ []
   marked_yes is = more true is
 
-  pub marked_no : get_or marks i false ≡ false → marked (take (i + 1) marks) ≡ marked (take i marks)
+  marked_no : get_or marks i false ≡ false → marked (take (i + 1) marks) ≡ marked (take i marks)
   marked_no is = more false is ∙ append-nil (marked (take i marks))
-
-pub marked_all : (marks : List Bool) (i : ℕ) → length marks ≤ i → marked (take i marks) ≡ marked marks
-marked_all marks i end = ap marked (take_all i marks end)
 
 -- one more number is listed where there is room, and left out where there is none
 pad_room : (filler : ℕ) (xs : List ℕ) (n m x : ℕ) → n ≤ m → length xs < n → take n ((xs ++ x ∷ []) ++ replicate m filler) ≡ set (take n (xs ++ replicate m filler)) (length xs) x
@@ -102,6 +84,3 @@ module _ (room : ℕ) (marks : List Bool) (i count : ℕ) (numbers : List ℕ) (
   listed_no is =
       let same = marked_no marks i within is in
       (sofar.0 ∙ ap (λ ns. min room (length ns)) (sym same), sofar.1 ∙ ap (padded room 255) (sym same))
-
-pub listed_none : (room : ℕ) (marks : List Bool) → Listed room marks 0 0 (replicate room 255)
-listed_none room marks = (omega arith, sym (take-replicate room room 255 (omega arith)))

@@ -1,22 +1,23 @@
 -- The cards that may be played, gathered as bits in one pass, for `playable` and `permitted`.
-use Rattle.std.proofs.Common.{◌≡◌, ℕ, zero, suc, ◌+◌, ◌*◌, ◌%◌, ◌^◌, ◌<◌, Bool, true, false, cond, not, ◌&&◌, ◌||◌, eqb, ltb, List, [], ◌∷◌, length, get_or, Some, None, Option, sym, refl, ap, ◌∙◌, subst, add-zero, add_comm, one-mul, add-one, arith}
+use Rattle.std.proofs.Common.{◌≡◌, ℕ, zero, suc, ◌+◌, ◌*◌, ◌%◌, ◌^◌, ◌<◌, Bool, true, false, cond, not, ◌&&◌, ◌||◌, eqb, ltb, List, [], ◌∷◌, map, get_or, Some, None, Option, sym, refl, ap, ◌∙◌, add-zero, add_comm, one-mul, add-one, arith}
 use mathlib.Core.Bool.{or-true, or-false}
 use native.Mathlib.Nat.{pow-succ'}
 use lib.Bits.{bit_or}
 use Rattle.std.proofs.lemmas.Nat.{one_shl, or_comm, or_shifted}
-use Rattle.std.proofs.lemmas.List.{get_or-map}
+use Rattle.std.specs.List.{range_with_len}
+use Rattle.std.proofs.lemmas.List.FromFn.{get_or-map-range_with_len}
 use Rattle.std.proofs.lemmas.Bool.{le-ltb}
 use Rattle.cards.specs.declared.deck.Card.{Card}
 use Rattle.cards.specs.declared.refusals.Refusal.TheVariants.{DealIsSettled, NotThisSeatsTurn, NotInThisMoment, NoSuchCard, CardNotHeld, LedClassHeld}
 use Rattle.cards.specs.declared.seats.Seat.{Seat}
 use Rattle.cards.specs.declared.seats.Seat.TheVariants.{Forehand, Middlehand, Rearhand}
-use Rattle.cards.specs.Deck.{card_at}
+use Rattle.cards.specs.Deck.{card_at, card_number}
 use Rattle.cards.specs.Refusals.{topmost}
 use Rattle.cards.specs.Seats.{seat_at, seat_number}
+use Rattle.cards.proofs.Cardinals.{number_at}
 use Rattle.kinds.specs.Meanings.{Meaning}
 use Rattle.rules.specs.declared.deals.Common.{Common}
 use Rattle.rules.specs.declared.deals.Deal.{Deal}
-use Rattle.rules.specs.declared.deals.Pile.{Pile}
 use Rattle.rules.specs.declared.deals.Trick.{Trick}
 use Rattle.rules.specs.declared.deals.Trick.TheVariants.{Empty, One, Two, Full}
 use Rattle.rules.specs.declared.moments.Moment.{Moment}
@@ -24,9 +25,10 @@ use Rattle.rules.specs.declared.moments.Moment.TheVariants.{Bidding, Hearing, Al
 use Rattle.rules.specs.Board.{any_of_class, follows}
 use Rattle.rules.specs.Moments.{is_at}
 use Rattle.rules.specs.Permitted.{bits_below, may_play, permitted_by, permitted_of}
-use Rattle.rules.specs.Piles.{holding, is_held, is_seat, marked}
+use Rattle.rules.specs.Piles.{holding, is_seat, marked}
 use Rattle.rules.specs.Refusing.{is_none, refusal_of}
-use Rattle.views.specs.Permitted.{class_asked, is_of_asked, is_playable, playable_of}
+use Rattle.rules.specs.Serving.{class_to_serve, is_of_class}
+use Rattle.views.specs.Permitted.{is_playable, playable_of}
 
 -- the bits below n are gathered
 abbrev pub Gathered : (ℕ → Bool) → ℕ → ℕ → Type 0
@@ -42,7 +44,7 @@ module _ (test : ℕ → Bool) (n bits : ℕ) (sofar : Gathered test n bits) whe
   doubles : 2 ^ (n + 1) ≡ 2 * 2 ^ n
   doubles = ap (λ k. 2 ^ k) (add-one n) ∙ pow-succ' 2 n
 
-  pub gathered_yes : n < 32 → test n ≡ true → Gathered test (n + 1) (bit_or bits (1 * 2 ^ n % 2 ^ 32))
+  pub gathered_yes : n < 32 → true ≡ test n → Gathered test (n + 1) (bit_or bits (1 * 2 ^ n % 2 ^ 32))
   gathered_yes low is =
       let sum : bit_or bits (1 * 2 ^ n % 2 ^ 32) ≡ bits + 2 ^ n =
       ap (bit_or bits) (one_shl n 32 low)
@@ -50,30 +52,16 @@ module _ (test : ℕ → Bool) (n bits : ℕ) (sofar : Gathered test n bits) whe
       ∙ (ap (λ k. bit_or k bits) (sym (one-mul (2 ^ n)))
       ∙ (or_shifted 1 n bits sofar.1
       ∙ (ap (λ k. k + bits) (one-mul (2 ^ n)) ∙ add_comm (2 ^ n) bits)))) in
-      (sum ∙ (ap (λ k. k + 2 ^ n) sofar.0 ∙ steps true is), omega (arith, sum, sofar.1, doubles))
+      (sum ∙ (ap (λ k. k + 2 ^ n) sofar.0 ∙ steps true (sym is)), omega (arith, sum, sofar.1, doubles))
 
-  pub gathered_no : test n ≡ false → Gathered test (n + 1) bits
+  pub gathered_no : false ≡ test n → Gathered test (n + 1) bits
   gathered_no is =
-      (sofar.0 ∙ (sym (add-zero (bits_below n test)) ∙ steps false is), omega (arith, sofar.1, doubles))
+      (sofar.0 ∙ (sym (add-zero (bits_below n test)) ∙ steps false (sym is)), omega (arith, sofar.1, doubles))
 
--- a card is gone through: it is in the hand or not, and of the class asked for or not
-module _ (m : Meaning) (asked : Option ℕ) (seat : Seat) (piles : List Pile) (n bits : ℕ) (long : length piles ≡ 32) (within : n < 32)
-    (sofar : Gathered (is_playable m (holding seat piles) asked) n bits) (pile : Pile) (held : Bool) (is : held ≡ is_held seat (get_or piles n pile)) where
-  abbrev test : ℕ → Bool
-  test = is_playable m (holding seat piles) asked
-
-  tested : (b : Bool) → held ≡ b → test n ≡ (b && is_of_asked m asked n)
-  tested b e = ap (λ h. h && is_of_asked m asked n) (get_or-map (is_held seat) piles n pile false (omega arith) ∙ (sym is ∙ e))
-
-  module _ (after : ℕ) where
-    pub plays : (of : Bool) → of ≡ is_of_asked m asked n → held ≡ true → of ≡ true → after ≡ bit_or bits (1 * 2 ^ n % 2 ^ 32) → Gathered test (n + 1) after
-    plays of its e f with_it = subst (Gathered test (n + 1)) (sym with_it) (gathered_yes test n bits sofar within (tested true e ∙ (sym its ∙ f)))
-
-    pub plays_other : (of : Bool) → of ≡ is_of_asked m asked n → held ≡ true → of ≡ false → after ≡ bits → Gathered test (n + 1) after
-    plays_other of its e f same = subst (Gathered test (n + 1)) (sym same) (gathered_no test n bits sofar (tested true e ∙ (sym its ∙ f)))
-
-    pub plays_unheld : held ≡ false → after ≡ bits → Gathered test (n + 1) after
-    plays_unheld e same = subst (Gathered test (n + 1)) (sym same) (gathered_no test n bits sofar (tested false e))
+-- the number of a card that stands at a place in the list of all
+pub placed : (cards : List Card) (n : ℕ) (d : Card) → cards ≡ map card_at (range_with_len 0 32) → n < 32 → card_number (get_or cards n d) ≡ n
+placed cards n d all low =
+    ap (λ cs. card_number (get_or cs n d)) all ∙ (ap card_number (get_or-map-range_with_len card_at 0 32 n n d low (omega arith)) ∙ number_at n low)
 
 pub gathered_all : (m : Meaning) (hand : List Bool) (asked : Option ℕ) (n bits : ℕ) → n ≡ 32 → bits ≡ bits_below n (is_playable m hand asked) → bits ≡ playable_of m hand asked
 unfolding playable_of
@@ -108,11 +96,11 @@ playing Playing turn = refl
 playing Settled turn = refl
 
 module _ (m : Meaning) (hand : List Bool) (card : ℕ) where
-  served : (led : Card) (b : Bool) → (eqb (m.class (card_at card)) (m.class led) || not b) ≡ is_of_asked m (cond b (Some (m.class led)) None) card
+  served : (led : Card) (b : Bool) → (eqb (m.class (card_at card)) (m.class led) || not b) ≡ is_of_class m (cond b (Some (m.class led)) None) card
   served led true = or-false (eqb (m.class (card_at card)) (m.class led))
   served led false = or-true (eqb (m.class (card_at card)) (m.class led))
 
-  follows_is : (trick : Trick) → follows m hand trick card ≡ is_of_asked m (class_asked m hand trick) card
+  follows_is : (trick : Trick) → follows m hand trick card ≡ is_of_class m (class_to_serve m hand trick) card
   follows_is Empty = refl
   follows_is (One led) = served led (any_of_class m (m.class led) (marked hand))
   follows_is (Two led other) = served led (any_of_class m (m.class led) (marked hand))
@@ -135,7 +123,7 @@ module _ (m : Meaning) (deal : Deal) (seat : Seat) (n : ℕ) (named : seat_numbe
   is_to_play = is_at 6 c.moment && is_seat seat c.turn
 
   abbrev asked : Option ℕ
-  asked = class_asked m hand c.board.trick
+  asked = class_to_serve m hand c.board.trick
 
   may_play_lem : (card : ℕ) → card < 32 → may_play m c hand seat card ≡ (is_to_play && is_playable m hand asked card)
   unfolding refusal_of

@@ -1,9 +1,8 @@
 // What a seat sees of a deal.
-ghost use Rattle.std.specs.Prelude.{◌≡◌, ◌≤◌, ◌&&◌, ◌++◌, map, length, drop, if◌then◌else◌};
+ghost use Rattle.std.specs.Prelude.{◌≡◌, ◌&&◌, map, length, if◌then◌else◌};
 ghost use Rattle.cards.specs.Deck.{card_number};
 ghost use Rattle.cards.specs.Refusals.{answered};
 ghost use Rattle.cards.specs.Seats.{seat_at, seat_number};
-ghost use Rattle.rules.specs.Announcing.{is_ouvert};
 ghost use Rattle.rules.specs.Board.{is_declarer, open_cards, last_cards};
 ghost use Rattle.rules.specs.Moments.{is_at};
 ghost use Rattle.rules.specs.Piles.{marked, padded};
@@ -24,10 +23,10 @@ const SIGHT_LENGTH: usize = 42;
 fn turn_byte(common: &Common) -> u8
     ensures { result ≡ (if is_at 7 common.now.moment then 255 else seat_number common.now.turn) }
 {
-    if matches!(common.moment, Moment::Settled) {
+    if common.moment.is_settled() {
         NONE
     } else {
-        common.turn.number()
+        common.turn.into()
     }
 }
 
@@ -35,8 +34,8 @@ fn turn_byte(common: &Common) -> u8
 fn leader_byte(common: &Common) -> u8
     ensures { result ≡ (if is_at 6 common.now.moment then seat_number common.now.board.leader else 255) }
 {
-    if matches!(common.moment, Moment::Playing) {
-        common.board.leader.number()
+    if common.moment == Moment::Playing {
+        common.board.leader.into()
     } else {
         NONE
     }
@@ -47,14 +46,14 @@ fn contract_bytes(contract: Contract) -> [u8; 4]
     ensures { result ≡ contract_bytes contract }
 {
     match contract {
-        Contract::Undecided => [NONE, NONE, NONE, NONE],
-        Contract::Won(seat) => [seat.number(), NONE, NONE, NONE],
-        Contract::SkatTaken(seat) => [seat.number(), NONE, NONE, 0],
+        Contract::Undecided => [NONE; 4],
+        Contract::Won(seat) => [seat.into(), NONE, NONE, NONE],
+        Contract::SkatTaken(seat) => [seat.into(), NONE, NONE, 0],
         Contract::Announced(announcement) => [
-            announcement.declarer.number(),
-            announcement.game.number(),
-            announcement.level.number(),
-            announcement.hand as u8,
+            announcement.declarer.into(),
+            announcement.game.into(),
+            announcement.level.into(),
+            announcement.hand.into(),
         ],
     }
 }
@@ -64,9 +63,9 @@ fn open_trick_bytes(trick: Trick) -> [u8; 3]
     ensures { result ≡ padded 3 255 (map card_number (open_cards trick)) }
 {
     match trick {
-        Trick::One(led) => [led.number(), NONE, NONE],
-        Trick::Two(led, second) => [led.number(), second.number(), NONE],
-        Trick::Empty | Trick::Full(_, _, _) => [NONE, NONE, NONE],
+        Trick::One(led) => [led.into(), NONE, NONE],
+        Trick::Two(led, second) => [led.into(), second.into(), NONE],
+        Trick::Empty | Trick::Full(..) => [NONE; 3],
     }
 }
 
@@ -75,8 +74,8 @@ fn last_trick_bytes(trick: Trick) -> [u8; 3]
     ensures { result ≡ padded 3 255 (map card_number (last_cards trick)) }
 {
     match trick {
-        Trick::Full(led, second, third) => [led.number(), second.number(), third.number()],
-        Trick::Empty | Trick::One(_) | Trick::Two(_, _) => [NONE, NONE, NONE],
+        Trick::Full(led, second, third) => [led.into(), second.into(), third.into()],
+        Trick::Empty | Trick::One(_) | Trick::Two(..) => [NONE; 3],
     }
 }
 
@@ -84,14 +83,15 @@ fn last_trick_bytes(trick: Trick) -> [u8; 3]
 fn head(common: &Common, cards: u8) -> [u8; 18]
     ensures { result ≡ head_bytes common.now cards }
 {
+    let [low, high] = common.bid.to_le_bytes();
     let [declarer, game, level, hand] = contract_bytes(common.contract);
-    let open = open_trick_bytes(common.board.trick);
-    let last = last_trick_bytes(common.board.trick);
+    let [led, second, third] = open_trick_bytes(common.board.trick);
+    let [last_led, last_second, last_third] = last_trick_bytes(common.board.trick);
     [
-        common.moment.number(),
+        common.moment.into(),
         turn_byte(common),
-        (common.bid % 256) as u8,
-        (common.bid / 256) as u8,
+        low,
+        high,
         declarer,
         game,
         level,
@@ -99,40 +99,33 @@ fn head(common: &Common, cards: u8) -> [u8; 18]
         common.board.taken.declarer,
         common.board.taken.defenders,
         leader_byte(common),
-        open[0],
-        open[1],
-        open[2],
-        last[0],
-        last[1],
-        last[2],
+        led,
+        second,
+        third,
+        last_led,
+        last_second,
+        last_third,
         cards,
     ]
-}
-
-// Whether the declarer plays with an open hand.
-fn is_ouvert(level: Level) -> bool
-    ensures { result ≡ is_ouvert level }
-{
-    matches!(level, Level::Ouvert)
 }
 
 // The declarer's hand if it lies open.
 fn shown_marks(deal: &Deal) -> [bool; 32]
     ensures { marked result ≡ marked (shown_in deal.now.common.contract deal.now.piles) }
 {
-    if let Contract::Announced(announcement) = deal.common.contract {
-        if is_ouvert(announcement.level) {
-            return held_marks(&deal.piles, announcement.declarer);
+    match deal.common.contract {
+        Contract::Announced(announcement) if announcement.level == Level::Ouvert => {
+            held_marks(&deal.piles, announcement.declarer)
         }
+        _ => [false; 32],
     }
-    [false; 32]
 }
 
 // Whether a seat sees the put cards: the declarer does, until the announcement.
 fn sees_put_cards(common: &Common, seat: Seat) -> bool
     ensures { result ≡ (is_at 5 common.now.moment && is_declarer common.now.contract seat) }
 {
-    matches!(common.moment, Moment::Announcing) && common.contract.is_declarer(seat)
+    common.moment == Moment::Announcing && common.contract.is_declarer(seat)
 }
 
 // The put cards if the seat sees them.
@@ -146,39 +139,28 @@ fn put_marks(deal: &Deal, seat: Seat) -> [bool; 32]
     }
 }
 
-// Writes all that a seat sees into the first 42 bytes of a buffer.
-fn write_sight(deal: &Deal, seat: Seat, buffer: &mut [u8])
-    requires { 42 ≤ length buffer.old }
-    ensures { buffer.new ≡ sight_of deal.now seat ++ drop 42 buffer.old }
+// All that a seat sees.
+fn seen(deal: &Deal, seat: Seat) -> [u8; SIGHT_LENGTH]
+    ensures { result ≡ sight_of deal.now seat }
 {
     let hand = held_marks(&deal.piles, seat);
-    buffer[0..18].copy_from_slice(&head(&deal.common, count_marked(&hand)));
-    buffer[18..30].copy_from_slice(&listed::<12>(&hand));
-    buffer[30..40].copy_from_slice(&listed::<10>(&shown_marks(deal)));
-    buffer[40..42].copy_from_slice(&listed::<2>(&put_marks(deal, seat)));
+    let mut bytes = [NONE; SIGHT_LENGTH];
+    bytes[..18].copy_from_slice(&head(&deal.common, count_marked(&hand)));
+    bytes[18..30].copy_from_slice(&listed::<12>(&hand));
+    bytes[30..40].copy_from_slice(&listed::<10>(&shown_marks(deal)));
+    bytes[40..42].copy_from_slice(&listed::<2>(&put_marks(deal, seat)));
+    bytes
 }
 
 // The seat of a number, for a sight into a buffer of some length.
 fn viewer(seat: u8, room: usize) -> Result<Seat, Refusal>
     ensures { result ≡ viewer_of (seat_at seat) room }
 {
-    let Some(seat) = Seat::from_number(seat) else {
-        return Err(Refusal::NoSuchSeat);
-    };
+    let seat = Seat::try_from(seat)?;
     if room < SIGHT_LENGTH {
         return Err(Refusal::BufferTooShort);
     }
     Ok(seat)
-}
-
-// Writes a seat's sight into the first 42 bytes of a buffer; where it refuses, it alters nothing.
-pub fn sight(deal: &Deal, seat: u8, buffer: &mut [u8]) -> Result<(), Refusal>
-    ensures answer { result ≡ answered (sight_refusal (seat_at seat) (length buffer.old)) tt }
-    ensures buffer { buffer.new ≡ buffer_after deal.now (seat_at seat) buffer.old }
-{
-    let seat = viewer(seat, buffer.len())?;
-    write_sight(deal, seat, buffer);
-    Ok(())
 }
 
 // A seat's sight as a value, where a buffer of this length could take it.
@@ -186,7 +168,15 @@ pub fn sight_bytes(deal: &Deal, seat: u8, room: usize) -> Result<[u8; 42], Refus
     ensures { result ≡ seen_by deal.now (seat_at seat) room }
 {
     let seat = viewer(seat, room)?;
-    let mut bytes = [NONE; SIGHT_LENGTH];
-    write_sight(deal, seat, &mut bytes);
-    Ok(bytes)
+    Ok(seen(deal, seat))
+}
+
+// Writes a seat's sight into the first 42 bytes of a buffer; where it refuses, it alters nothing.
+pub fn sight(deal: &Deal, seat: u8, buffer: &mut [u8]) -> Result<(), Refusal>
+    ensures answer { result ≡ answered (sight_refusal (seat_at seat) (length buffer.old)) tt }
+    ensures buffer { buffer.new ≡ buffer_after deal.now (seat_at seat) buffer.old }
+{
+    let bytes = sight_bytes(deal, seat, buffer.len())?;
+    buffer[..SIGHT_LENGTH].copy_from_slice(&bytes);
+    Ok(())
 }

@@ -1,5 +1,5 @@
 use Rattle.views.proofs.Listing.{Listed}
 use Rattle.views.proofs.hands.listed.Given as goal
 
-abbrev pub invariant-loop-i : goal.invariant-loop-i
-invariant-loop-i g l = Listed g.row.N l.marks l.i l.count l.numbers
+abbrev pub invariant-loop-number : goal.invariant-loop-number
+invariant-loop-number g l = Listed g.row.N l.marks l.number l.count l.numbers

@@ -1,11 +1,8 @@
+use Rattle.std.proofs.Common.{false, rules}
+use Rattle.rules.specs.declared.deals.Pile.TheVariants.{InSkat}
 use Rattle.rules.specs.Piles.{is_in_skat}
-use Rattle.views.proofs.Listing.{marks_more, marks_all}
+use Rattle.rules.proofs.Mapping.{mapped}
 use Rattle.views.proofs.hands.skat_marks.Goals as goal
 
-pub loop-i-preserved : goal.loop-i-preserved
-loop-i-preserved c =
-    marks_more is_in_skat c.args.piles.now c.loop-i.i c.loop-i.marks c.told-piles c.loop-i.invariant c.is_in_skat.result _ c.loop-i-test.true c.is_in_skat.ensures
-
 pub returns : goal.returns
-returns c =
-    marks_all is_in_skat c.args.piles.now c.loop-i.i c.loop-i.marks c.told-piles c.loop-i.invariant c.loop-i-test.false
+returns c = mapped _ is_in_skat _ (λ x y q called. (search rules, search rules)) c.args.piles.now c.map.result 32 InSkat false (search rules) c.map.ensures.items

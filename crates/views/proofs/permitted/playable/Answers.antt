@@ -1,25 +1,26 @@
-use Rattle.std.proofs.Common.{arith}
+use Rattle.std.proofs.Common.{◌+◌, ◌*◌, ◌%◌, ◌^◌, sym, ap, ◌∙◌, subst, arith}
+use lib.Bits.{bit_or}
 use Rattle.rules.specs.Piles.{holding}
-use Rattle.views.proofs.Permitting.{gathered_all, plays, plays_other, plays_unheld}
+use Rattle.views.specs.Permitted.{is_playable}
+use Rattle.views.proofs.Permitting.{Gathered, gathered_all, gathered_yes, gathered_no, placed}
 use Rattle.views.proofs.permitted.playable.Goals as goal
-use Rattle.views.proofs.permitted.playable.Goals.{then-is_held+then-is_of_asked, else-is_held, else-is_held-via-then-is_held+else-is_of_asked, else-is_held-via-else-is_held}
+use Rattle.views.proofs.permitted.playable.Goals.{then-is_playable, else-is_playable}
 
-pub loop-number-preserved : goal.loop-number-preserved
-loop-number-preserved g c =
-    elim c.if-is_held.branch [
-      | then-is_held+then-is_of_asked w ↦
-          plays (g.K.Kind.meaning c.args.kind.now) c.args.asked c.args.seat c.args.piles.now c.loop-number.number c.loop-number.bits c.told-piles c.loop-number-test.true c.loop-number.invariant _ c.is_held.result c.is_held.ensures c.if-is_held.bits
-          w.is_of_asked.result w.is_of_asked.ensures w.if-is_held.true w.if-is_of_asked.true w.bits-is
-      | else-is_held w ↦ elim w.else-is_held.branch [
-        | else-is_held-via-then-is_held+else-is_of_asked v ↦
-            plays_other (g.K.Kind.meaning c.args.kind.now) c.args.asked c.args.seat c.args.piles.now c.loop-number.number c.loop-number.bits c.told-piles c.loop-number-test.true c.loop-number.invariant _ c.is_held.result c.is_held.ensures c.if-is_held.bits
-            v.is_of_asked.result v.is_of_asked.ensures v.if-is_held.true v.if-is_of_asked.false w.bits-is
-        | else-is_held-via-else-is_held v ↦
-            plays_unheld (g.K.Kind.meaning c.args.kind.now) c.args.asked c.args.seat c.args.piles.now c.loop-number.number c.loop-number.bits c.told-piles c.loop-number-test.true c.loop-number.invariant _ c.is_held.result c.is_held.ensures c.if-is_held.bits
-            v.if-is_held.false w.bits-is
-      ]
+pub loop-card-preserved : goal.loop-card-preserved
+loop-card-preserved g c =
+    let test = is_playable (g.K.Kind.meaning c.args.kind.now) (holding c.args.seat c.args.piles.now) c.args.class in
+    let n = c.loop-card.card-index in
+    let bits = c.loop-card.bits in
+    let at = placed c.deck-card-items.result n _ c.deck-card-items.ensures c.loop-card-test.true in
+    elim c.if-is_playable.branch [
+      | then-is_playable w ↦
+          subst (Gathered test (n + 1)) (sym (w.bits-is ∙ ap (λ k. bit_or bits (1 * 2 ^ k % 2 ^ 32)) (w.from.ensures ∙ at)))
+          (gathered_yes test n bits c.loop-card.invariant c.loop-card-test.true (sym w.if-is_playable.true ∙ (c.is_playable.ensures ∙ ap test at)))
+      | else-is_playable w ↦
+          subst (Gathered test (n + 1)) (sym w.bits-is)
+          (gathered_no test n bits c.loop-card.invariant (sym w.if-is_playable.false ∙ (c.is_playable.ensures ∙ ap test at)))
     ]
 
 pub returns : goal.returns
 returns g c =
-    gathered_all (g.K.Kind.meaning c.args.kind.now) (holding c.args.seat c.args.piles.now) c.args.asked c.loop-number.number c.loop-number.bits (omega arith) c.loop-number.invariant.0
+    gathered_all (g.K.Kind.meaning c.args.kind.now) (holding c.args.seat c.args.piles.now) c.args.class c.loop-card.card-index c.loop-card.bits (omega arith) c.loop-card.invariant.0
