@@ -1,1 +1,3 @@
+pub mod Acting
 pub mod Lines
+pub mod Running

@@ -1,15 +1,11 @@
 // Setting a table, and the seven acting calls. Each takes the kind of game that is played, since
 // the law of runs is about one kind; before the announcement no call reads it.
 ghost use Rattle.std.specs.Prelude.{◌≡◌, []};
-ghost use Rattle.cards.specs.Refusals.{answered};
-ghost use Rattle.cards.specs.Seats.{seat_at};
 ghost use Rattle.kinds.specs.Meanings.{Meaning};
 ghost use Rattle.rules.specs.declared.calls.Call.TheVariants.{Bid, Hold, Pass, Take, Put, Announce, Play};
 ghost use Rattle.rules.specs.Dealing.{IsCutPack, start};
-ghost use Rattle.rules.specs.Refusing.{refusal_by};
-ghost use Rattle.rules.specs.Steps.{after_call};
-ghost use Rattle.runs.specs.declared.requests.Request.TheVariants.{Act};
-ghost use Rattle.runs.specs.Law.{Continues, Law, Lawful};
+ghost use Rattle.runs.specs.Law.{Law, Lawful};
+ghost use Rattle.table.specs.Acting.{Acts};
 
 use super::tables::Table;
 use cards::packs::CutPack;
@@ -31,54 +27,42 @@ impl Table {
 
     // Answers an acting call.
     pub(super) fn act<K: Kind>(&mut self, kind: &K, seat: u8, call: Call) -> Result<(), Refusal>
-        ensures answer { result ≡ answered (refusal_by (K.Kind.meaning kind.now) self.old.deal (seat_at seat) call) tt }
-        ensures deal { self.new.deal ≡ after_call (K.Kind.meaning kind.now) self.old.deal (seat_at seat) call }
-        ensures law { Continues (K.Kind.meaning kind.now) self.old.deal self.new.deal (Act seat call) }
+        ensures { Acts (K.Kind.meaning kind.now) self.old.deal self.new.deal seat call result }
     {
         self.deal.act(kind, seat, call)
     }
 
     // Bids a value.
     pub fn bid<K: Kind>(&mut self, kind: &K, seat: u8, value: u16) -> Result<(), Refusal>
-        ensures answer { result ≡ answered (refusal_by (K.Kind.meaning kind.now) self.old.deal (seat_at seat) (Bid value)) tt }
-        ensures deal { self.new.deal ≡ after_call (K.Kind.meaning kind.now) self.old.deal (seat_at seat) (Bid value) }
-        ensures law { Continues (K.Kind.meaning kind.now) self.old.deal self.new.deal (Act seat (Bid value)) }
+        ensures { Acts (K.Kind.meaning kind.now) self.old.deal self.new.deal seat (Bid value) result }
     {
         self.act(kind, seat, Call::Bid(value))
     }
 
     // Holds the highest bid, or, where nothing was bid, bids 18 as forehand.
     pub fn hold<K: Kind>(&mut self, kind: &K, seat: u8) -> Result<(), Refusal>
-        ensures answer { result ≡ answered (refusal_by (K.Kind.meaning kind.now) self.old.deal (seat_at seat) Hold) tt }
-        ensures deal { self.new.deal ≡ after_call (K.Kind.meaning kind.now) self.old.deal (seat_at seat) Hold }
-        ensures law { Continues (K.Kind.meaning kind.now) self.old.deal self.new.deal (Act seat Hold) }
+        ensures { Acts (K.Kind.meaning kind.now) self.old.deal self.new.deal seat Hold result }
     {
         self.act(kind, seat, Call::Hold)
     }
 
     // Passes.
     pub fn pass<K: Kind>(&mut self, kind: &K, seat: u8) -> Result<(), Refusal>
-        ensures answer { result ≡ answered (refusal_by (K.Kind.meaning kind.now) self.old.deal (seat_at seat) Pass) tt }
-        ensures deal { self.new.deal ≡ after_call (K.Kind.meaning kind.now) self.old.deal (seat_at seat) Pass }
-        ensures law { Continues (K.Kind.meaning kind.now) self.old.deal self.new.deal (Act seat Pass) }
+        ensures { Acts (K.Kind.meaning kind.now) self.old.deal self.new.deal seat Pass result }
     {
         self.act(kind, seat, Call::Pass)
     }
 
     // Takes up the skat.
     pub fn take<K: Kind>(&mut self, kind: &K, seat: u8) -> Result<(), Refusal>
-        ensures answer { result ≡ answered (refusal_by (K.Kind.meaning kind.now) self.old.deal (seat_at seat) Take) tt }
-        ensures deal { self.new.deal ≡ after_call (K.Kind.meaning kind.now) self.old.deal (seat_at seat) Take }
-        ensures law { Continues (K.Kind.meaning kind.now) self.old.deal self.new.deal (Act seat Take) }
+        ensures { Acts (K.Kind.meaning kind.now) self.old.deal self.new.deal seat Take result }
     {
         self.act(kind, seat, Call::Take)
     }
 
     // Puts two cards away.
     pub fn put<K: Kind>(&mut self, kind: &K, seat: u8, a: u8, b: u8) -> Result<(), Refusal>
-        ensures answer { result ≡ answered (refusal_by (K.Kind.meaning kind.now) self.old.deal (seat_at seat) (Put a b)) tt }
-        ensures deal { self.new.deal ≡ after_call (K.Kind.meaning kind.now) self.old.deal (seat_at seat) (Put a b) }
-        ensures law { Continues (K.Kind.meaning kind.now) self.old.deal self.new.deal (Act seat (Put a b)) }
+        ensures { Acts (K.Kind.meaning kind.now) self.old.deal self.new.deal seat (Put a b) result }
     {
         self.act(kind, seat, Call::Put(a, b))
     }
@@ -91,18 +75,14 @@ impl Table {
         game: u8,
         level: u8,
     ) -> Result<(), Refusal>
-        ensures answer { result ≡ answered (refusal_by (K.Kind.meaning kind.now) self.old.deal (seat_at seat) (Announce game level)) tt }
-        ensures deal { self.new.deal ≡ after_call (K.Kind.meaning kind.now) self.old.deal (seat_at seat) (Announce game level) }
-        ensures law { Continues (K.Kind.meaning kind.now) self.old.deal self.new.deal (Act seat (Announce game level)) }
+        ensures { Acts (K.Kind.meaning kind.now) self.old.deal self.new.deal seat (Announce game level) result }
     {
         self.act(kind, seat, Call::Announce(game, level))
     }
 
     // Plays a card.
     pub fn play<K: Kind>(&mut self, kind: &K, seat: u8, card: u8) -> Result<(), Refusal>
-        ensures answer { result ≡ answered (refusal_by (K.Kind.meaning kind.now) self.old.deal (seat_at seat) (Play card)) tt }
-        ensures deal { self.new.deal ≡ after_call (K.Kind.meaning kind.now) self.old.deal (seat_at seat) (Play card) }
-        ensures law { Continues (K.Kind.meaning kind.now) self.old.deal self.new.deal (Act seat (Play card)) }
+        ensures { Acts (K.Kind.meaning kind.now) self.old.deal self.new.deal seat (Play card) result }
     {
         self.act(kind, seat, Call::Play(card))
     }

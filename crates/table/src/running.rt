@@ -1,9 +1,11 @@
 // Whole runs: any list of requests on a table newly set.
-ghost use Rattle.std.specs.Prelude.{◌≡◌, Some, None};
-ghost use Rattle.rules.specs.Dealing.{start};
-ghost use Rattle.runs.specs.Law.{Law, ResultLaw};
-ghost use Rattle.runs.specs.Runs.{after, answer as answer_to, answers as answers_to, ended};
-ghost use Rattle.table.specs.Lines.{requests_in, answers_in};
+ghost use Rattle.std.specs.Prelude.{◌≡◌, Some, None, Option};
+ghost use Rattle.std.specs.Fn.{FnReturnsAt};
+ghost use Rattle.worth.specs.Rated.{Worth};
+ghost use Rattle.runs.specs.Law.{ResultLaw};
+ghost use Rattle.runs.specs.Runs.{after, answer as answer_to, result_answer};
+ghost use Rattle.table.specs.Lines.{requests_in};
+ghost use Rattle.table.specs.Running.{CountsBy, Plays};
 
 use super::asked::Asked;
 use super::tables::Table;
@@ -14,9 +16,15 @@ use views::sight;
 use worth::rated::RatedKind;
 
 impl Table {
-    // Answers any request but the result, which only a rated kind answers.
-    fn reply<K: Kind>(&mut self, kind: &K, request: Request) -> Option<Answer>
-        ensures answer { result ≡ answer_to (K.Kind.meaning kind.now) None self.old.deal request }
+    // Answers any request, and the one for the result by what is given for it.
+    fn reply<K: Kind, F: Fn(&Table) -> Option<Answer>>(
+        &mut self,
+        kind: &K,
+        request: Request,
+        counted: &F,
+    ) -> Option<Answer>
+        requires { F.IsAlwaysCallable counted.now }
+        ensures answer { (worth : Option Worth) → CountsBy worth (FnReturnsAt F.Fn counted.now) → result ≡ answer_to (K.Kind.meaning kind.now) worth self.old.deal request }
         ensures deal { self.new.deal ≡ after (K.Kind.meaning kind.now) self.old.deal request }
     {
         match request {
@@ -25,50 +33,43 @@ impl Table {
                 Some(Answer::Saw(sight::sight_bytes(&self.deal, seat, room)))
             }
             Request::Permitted(seat) => Some(Answer::May(self.permitted(kind, seat))),
-            Request::Result => None,
+            Request::Result => counted(self),
         }
     }
 
-    // Answers any request.
-    fn rated_reply<K: RatedKind>(&mut self, kind: &K, request: Request) -> Option<Answer>
-        ensures answer { result ≡ answer_to (K.Kind.meaning kind.now) (Some (record { run = K.RatedKind.run kind.now; counts = K.RatedKind.counts kind.now })) self.old.deal request }
-        ensures deal { self.new.deal ≡ after (K.Kind.meaning kind.now) self.old.deal request }
+    // Plays a whole run and writes the answer beside each request.
+    fn play_run<K: Kind, F: Fn(&Table) -> Option<Answer>>(
+        pack: CutPack,
+        kind: &K,
+        asked: &mut [Asked],
+        counted: F,
+    ) -> Table
+        requires { F.IsAlwaysCallable counted }
+        ensures { (worth : Option Worth) → CountsBy worth (FnReturnsAt F.Fn counted) → Plays (K.Kind.meaning kind.now) worth pack.cards asked.old asked.new result.deal }
     {
-        match request {
-            Request::Act(_, _) | Request::Sight(_, _) | Request::Permitted(_) => {
-                self.reply(kind, request)
-            }
-            Request::Result => Some(Answer::Counted(self.result(kind))),
+        let mut table = Table::set(pack);
+        for line in asked.iter_mut() {
+            line.answer = table.reply(kind, line.request, &counted);
         }
+        table
     }
 
     // Plays a whole run under a kind and writes the answer beside each request. The result, which
     // an unrated kind does not know, stays unanswered.
     pub fn run<K: Kind>(pack: CutPack, kind: &K, asked: &mut [Asked]) -> Table
-        ensures requests { requests_in asked.new ≡ requests_in asked.old }
-        ensures answers { answers_in asked.new ≡ answers_to (K.Kind.meaning kind.now) None (start pack.cards) (requests_in asked.old) }
-        ensures deal { result.deal ≡ ended (K.Kind.meaning kind.now) (start pack.cards) (requests_in asked.old) }
-        ensures law { Law (K.Kind.meaning kind.now) pack.cards (requests_in asked.old) }
+        ensures { Plays (K.Kind.meaning kind.now) None pack.cards asked.old asked.new result.deal }
     {
-        let mut table = Table::set(pack);
-        for i in 0..asked.len() {
-            asked[i].answer = table.reply(kind, asked[i].request);
-        }
-        table
+        Table::play_run(pack, kind, asked, |_| None)
     }
 
     // Plays a whole run under a rated kind and writes the answer beside each request.
     pub fn rated_run<K: RatedKind>(pack: CutPack, kind: &K, asked: &mut [Asked]) -> Table
-        ensures requests { requests_in asked.new ≡ requests_in asked.old }
-        ensures answers { answers_in asked.new ≡ answers_to (K.Kind.meaning kind.now) (Some (record { run = K.RatedKind.run kind.now; counts = K.RatedKind.counts kind.now })) (start pack.cards) (requests_in asked.old) }
-        ensures deal { result.deal ≡ ended (K.Kind.meaning kind.now) (start pack.cards) (requests_in asked.old) }
-        ensures law { Law (K.Kind.meaning kind.now) pack.cards (requests_in asked.old) }
-        ensures worth { ResultLaw (K.Kind.meaning kind.now) (record { run = K.RatedKind.run kind.now; counts = K.RatedKind.counts kind.now }) pack.cards (requests_in asked.old) }
+        ensures run { Plays (K.Kind.meaning kind.now) (Some (K.RatedKind.rated kind.now)) pack.cards asked.old asked.new result.deal }
+        ensures worth { ResultLaw (K.Kind.meaning kind.now) (K.RatedKind.rated kind.now) pack.cards (requests_in asked.old) }
     {
-        let mut table = Table::set(pack);
-        for i in 0..asked.len() {
-            asked[i].answer = table.rated_reply(kind, asked[i].request);
-        }
-        table
+        let counted = |table: &Table|
+            ensures { result ≡ result_answer (Some (K.RatedKind.rated kind.entry.now)) table.now.deal }
+        { Some(Answer::Counted(table.result(kind))) };
+        Table::play_run(pack, kind, asked, counted)
     }
 }

@@ -35,9 +35,9 @@ impl Table {
 
     // The declarer's seat and the game points of a settled deal, or 255 and none if it was passed in.
     pub fn result<K: RatedKind>(&self, kind: &K) -> Result<(u8, GamePoints), Refusal>
-        ensures answer { result ≡ result_of (record { run = K.RatedKind.run kind.now; counts = K.RatedKind.counts kind.now }) self.now.deal }
+        ensures answer { result ≡ result_of (K.RatedKind.rated kind.now) self.now.deal }
         ensures law { Continues (K.Kind.meaning kind.now) self.now.deal self.now.deal AskedResult }
-        ensures worth { Counts (K.Kind.meaning kind.now) (record { run = K.RatedKind.run kind.now; counts = K.RatedKind.counts kind.now }) self.now.deal result }
+        ensures worth { Counts (K.Kind.meaning kind.now) (K.RatedKind.rated kind.now) self.now.deal result }
     {
         results::result(&self.deal, kind)
     }

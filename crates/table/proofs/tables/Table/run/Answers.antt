@@ -1,32 +1,5 @@
-use Rattle.std.proofs.Common.{None, refl, ap, ◌∙◌, arith}
-use Rattle.runs.specs.Runs.{answers, ended}
-use Rattle.runs.proofs.Lawfully.{every_run}
-use Rattle.table.specs.Lines.{requests_in}
-use Rattle.table.proofs.Answering.{answered_none, answered_more, all_reached, all_answered}
+use Rattle.std.proofs.Common.{None, rules}
 use Rattle.table.proofs.tables.Table.run.Goals as goal
 
-pub loop-i-init : goal.loop-i-init
-loop-i-init g c = answered_none (g.K.Kind.meaning c.args.kind.now) None c.set-table.result.deal c.args.asked.now c.set-table.result.deal refl
-
-pub loop-i-preserved : goal.loop-i-preserved
-loop-i-preserved g c =
-    answered_more (g.K.Kind.meaning c.args.kind.now) None c.set-table.result.deal c.args.asked.now c.loop-i.i
-    c.loop-i.table.deal c.loop-i.asked c.loop-i.invariant _ c.reply.new.self.deal c.reply.result
-    (omega (arith, c.loop-i-test.true, c.loop-i.auto.asked)) c.reply.ensures.deal c.reply.ensures.answer
-
 pub returns : goal.returns
-returns g c =
-    let m = g.K.Kind.meaning c.args.kind.now in
-    let rs = requests_in c.args.asked.now in
-    let inv = c.loop-i.invariant in
-    record {
-      requests = inv.requests;
-      answers =
-          all_answered m None c.set-table.result.deal c.args.asked.now c.loop-i.i c.loop-i.table.deal c.loop-i.asked inv
-          c.loop-i-test.false (omega (arith, c.loop-i-test.false, c.loop-i.auto.asked))
-          ∙ ap (λ d. answers m None d rs) c.set-table.ensures.deal;
-      deal =
-          all_reached m None c.set-table.result.deal c.args.asked.now c.loop-i.i c.loop-i.table.deal c.loop-i.asked inv c.loop-i-test.false
-          ∙ ap (λ d. ended m d rs) c.set-table.ensures.deal;
-      law = every_run m c.args.pack.cards rs (g.met.K.Kind.apart c.args.kind.now) c.set-table.ensures.whole;
-    }
+returns g c = c.play_run.ensures None (λ table answer gives. search rules)

@@ -6,13 +6,9 @@ use Rattle.table.proofs.tables.Table.set.Goals as goal
 pub invariant_of-result : goal.invariant_of-result
 invariant_of-result c =
     let long : length c.args.pack.cards ≡ 32 = search rules in
-    record { reached = reached_new c.args.pack.cards c.set-deal.result (long, c.args.pack.once) c.set-deal.ensures }
+    record { reached = reached_new _ _ (long, c.args.pack.once) c.set-deal.ensures }
 
-pub returns : goal.returns
-returns c =
+pub returns-clause-law : goal.returns-clause-law
+returns-clause-law c =
     let long : length c.args.pack.cards ≡ 32 = search rules in
-    record {
-      deal = c.set-deal.ensures;
-      whole = (long, c.args.pack.once);
-      law = λ m law. every_run m c.args.pack.cards [] law (long, c.args.pack.once);
-    }
+    λ m law. every_run m _ [] law (long, c.args.pack.once)
