@@ -1,10 +1,10 @@
 -- Numbers read one by one into cards, with a note of those seen, for `named_cards`.
-use Rattle.std.proofs.Common.{◌≡◌, ℕ, zero, suc, ◌+◌, ◌<◌, ◌≤◌, Bool, true, false, eqb, List, [], ◌∷◌, map, length, get_or, take, set, replicate, count_by, sym, refl, ap, ◌∙◌, subst, ⊎_elim, arith}
+use Rattle.std.proofs.Common.{◌≡◌, ℕ, zero, suc, ◌+◌, ◌<◌, ◌≤◌, Bool, true, false, eqb, List, [], ◌∷◌, map, length, get_or, take, replicate, count_by, sym, refl, ap, ◌∙◌, subst, ⊎_elim, arith}
 use Rattle.std.specs.List.{AllByRecursion}
-use Rattle.std.proofs.ByRecursion.{All-get_or, All-more}
-use Rattle.std.proofs.lemmas.List.{get_or-set_same, get_or-set_other, get_or_past, get_or-replicate, length-set, map_push, take_more, take_more_set, take_all}
-use Rattle.std.proofs.lemmas.List.Sums.{sum_by-cons, sum_by_more, sum_by-set, sum_by-take-le, count_by-le-length}
-use Rattle.std.proofs.lemmas.Bool.{cases_eq, cases_lt, eq-eqb, ne_eqb}
+use Rattle.std.proofs.ByRecursion.{All-get_or}
+use Rattle.std.proofs.lemmas.List.{get_or_past, get_or-replicate, take_all}
+use Rattle.std.proofs.lemmas.List.Sums.{sum_by-cons, sum_by_more, sum_by-take-le, count_by-le-length}
+use Rattle.std.proofs.lemmas.Bool.{cases_lt, eq-eqb}
 use Rattle.cards.specs.declared.deck.Card.{Card}
 use Rattle.cards.specs.Deck.{card_number}
 use Rattle.cards.specs.Packs.{times, IsPack}
@@ -51,37 +51,6 @@ module _ (numbers : List ℕ) (i : ℕ) (cards : List Card) (seen : List Bool) (
 
   pub noted_high : 32 ≤ get_or numbers i 0 → IsPack numbers → ⊥
   noted_high high pack = omega (arith, All-get_or (λ n. n < 32) numbers i 0 within pack.1)
-
-  module _ (card : Card) (m : ℕ) (names : card_number card ≡ m) (is : m ≡ get_or numbers i 0) (small : m < 32) (new : get_or seen m false ≡ false) where
-    told_more : (n : ℕ) → times n (take (i + 1) numbers) ≡ bit (get_or (set seen m true) n false)
-    told_more n = ⊎_elim
-        (λ e.
-        let at : bit (get_or (set seen m true) n false) ≡ 1 = ap bit (ap (λ k. get_or (set seen m true) k false) e ∙ get_or-set_same seen m true false (omega (arith, sofar.long))) in
-        let before : bit (get_or seen n false) ≡ 0 = ap bit (ap (λ k. get_or seen k false) e ∙ new) in
-        let here : bit (eqb n (get_or numbers i 0)) ≡ 1 = ap bit (eq-eqb n (get_or numbers i 0) (e ∙ is)) in
-        omega (arith, step n, sofar.told n))
-        (λ ne.
-        let at : bit (get_or (set seen m true) n false) ≡ bit (get_or seen n false) = ap bit (get_or-set_other seen m n true false ne) in
-        let here : bit (eqb n (get_or numbers i 0)) ≡ 0 = ap bit (ne_eqb n (get_or numbers i 0) (λ e. ne (e ∙ sym is))) in
-        omega (arith, step n, sofar.told n))
-        (cases_eq n m)
-
-    pub noted_more : length numbers ≡ 32 → Noted numbers (i + 1) (set cards i card) (set seen m true)
-    noted_more long = record {
-      room = length-set cards i card ∙ sofar.room;
-      long = length-set seen m true ∙ sofar.long;
-      named =
-          let a = take_more_set cards i card (omega (arith, sofar.room)) in
-          let b = map_push card_number (take i cards) card in
-          let c = take_more numbers i 0 within in
-          let d = sofar.named in
-          cc;
-      low = All-more (λ n. n < 32) numbers i 0 within sofar.low (omega arith);
-      told = told_more;
-      marked =
-          let before : bit (get_or seen m false) ≡ 0 = ap bit new in
-          omega (arith, sum_by-set bit seen m true false (omega (arith, sofar.long)), sofar.marked);
-    }
 
 -- all 32 are read
 module _ (numbers : List ℕ) (i : ℕ) (cards : List Card) (seen : List Bool) (all : Noted numbers i cards seen) (long : length numbers ≡ 32) (end : 32 ≤ i) where

@@ -74,10 +74,3 @@ is_first ahead (x ∷ items) i b le best = (
   (λ k d l. best.none k d (omega arith)),
   (λ k l none. both_ways _ (none b x best.within) (best.early k x l)),
 )
-
-pub best_none : {A : Type 0} (ahead : A → A → Bool) (items : List A) → 0 < length items → Best ahead items 0 0
-best_none ahead items some = record {
-  within = some;
-  none = λ k d lt. absurd (omega arith);
-  early = λ k d lt. absurd (omega arith);
-}

@@ -1,9 +1,8 @@
 -- How often a number occurs in a pack that was cut, and in numbers in order.
-use Rattle.std.proofs.Common.{◌≡◌, ℕ, zero, suc, ◌+◌, ◌<◌, ◌≤◌, Bool, cond, eqb, List, map, length, get_or, take, drop, set, sym, refl, ap, ◌∙◌, ⊎_elim, arith, below_more}
-use Rattle.std.specs.List.{range_with_len}
+use Rattle.std.proofs.Common.{◌≡◌, ℕ, ◌+◌, ◌<◌, ◌≤◌, Bool, cond, eqb, List, map, length, get_or, take, drop, set, sym, ap, ◌∙◌, arith, below_more}
 use Rattle.std.proofs.lemmas.List.{map-append, map-set, drop-map, take-map, length-map, take-take, get_or-set_same, get_or-set_other}
-use Rattle.std.proofs.lemmas.List.Sums.{sum_by-cons, sum_by-append, sum_by_more, sum_by-take-drop, sum_by-take-le}
-use Rattle.std.proofs.lemmas.Bool.{cases_eq, eq-eqb, ne_eqb}
+use Rattle.std.proofs.lemmas.List.Sums.{sum_by-append, sum_by_more, sum_by-take-drop, sum_by-take-le}
+use Rattle.std.proofs.lemmas.Bool.{eq-eqb}
 use Rattle.cards.specs.declared.deck.Card.{Card}
 use Rattle.cards.specs.Deck.{card_number}
 use Rattle.cards.specs.Packs.{times, cut_at}
@@ -21,24 +20,6 @@ times_cut f n k xs =
     ∙ (ap (λ ys. times n ys + times n (map f (take k xs))) (sym (drop-map f k xs))
     ∙ ap (λ ys. times n (drop k (map f xs)) + times n ys) (sym (take-map f k xs)))) in
     omega (arith, parts, sum_by-take-drop test (map f xs) k)
-
-passed : (n a k : ℕ) → n < a → times n (range_with_len a k) ≡ 0
-passed n a zero h = refl
-passed n a (suc k) h =
-    let here : bit (eqb n a) ≡ 0 = ap bit (ne_eqb n a (λ e. omega arith)) in
-    omega (arith, sum_by-cons (λ x. bit (eqb n x)) a (range_with_len (a + 1) k), passed n (a + 1) k (omega arith))
-
--- each number of a range occurs once in it
-pub times_counting : (n a k : ℕ) → a ≤ n → n < a + k → times n (range_with_len a k) ≡ 1
-times_counting n a zero low high = absurd (omega arith)
-times_counting n a (suc k) low high = ⊎_elim
-    (λ e.
-    let here : bit (eqb n a) ≡ 1 = ap bit (eq-eqb n a e) in
-    omega (arith, sum_by-cons (λ x. bit (eqb n x)) a (range_with_len (a + 1) k), passed n (a + 1) k (omega arith)))
-    (λ ne.
-    let here : bit (eqb n a) ≡ 0 = ap bit (ne_eqb n a ne) in
-    omega (arith, sum_by-cons (λ x. bit (eqb n x)) a (range_with_len (a + 1) k), times_counting n (a + 1) k (omega arith) (omega arith)))
-    (cases_eq n a)
 
 -- cards written one by one in the order of their numbers
 pub ordered_more : (cards : List Card) (i : ℕ) (card : Card) → i < length cards → card_number card ≡ i → ((k : ℕ) → k < i → get_or (map card_number cards) k 0 ≡ k) → (k : ℕ) → k < i + 1 → get_or (map card_number (set cards i card)) k 0 ≡ k

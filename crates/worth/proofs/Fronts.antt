@@ -3,7 +3,6 @@ use Rattle.std.proofs.Common.{◌≡◌, ℕ, zero, suc, ◌+◌, ◌<◌, ◌�
 use denote.Enum.Bare.{sameb}
 use Rattle.std.specs.List.{prefix_len, list_any}
 use Rattle.std.proofs.lemmas.Bool.Decides.{nat_tests}
-use Rattle.std.proofs.lemmas.List.Sums.{prefix_len-le-length}
 use Rattle.cards.specs.contracts.deck.Suit.{the_type as suit_type}
 use Rattle.cards.specs.contracts.deck.Place.{the_type as place_type}
 use Rattle.cards.specs.declared.deck.Card.{Card}
@@ -47,14 +46,6 @@ module _ (run cards : List Card) (first : Card) (n : ℕ) (some : 0 < length run
       sym (tops_is run cards first some begins
       ∙ leading_at (is_alike cards first) run n le (λ k d h. same_true _ _ (sym (alike k d h)))
       (λ h d. ap (is_alike cards first) (here d) ∙ same_false _ _ differ))
-
-pub tops_none : (run cards : List Card) → length run ≤ 0 → 0 ≡ tops_of run cards
-tops_none [] cards none = refl
-tops_none (x ∷ run) cards none = absurd (omega arith)
-
-pub tops_high : (run cards : List Card) → tops_of run cards ≤ length run
-tops_high [] cards = omega arith
-tops_high (x ∷ run) cards = prefix_len-le-length (is_alike cards x) (x ∷ run)
 
 -- a card is among others, as `==` tells it
 pub among_same : (cards : List Card) (card : Card) → list_any (λ other. sameb suit_type other.suit card.suit && sameb place_type other.place card.place) cards ≡ is_among cards card

@@ -1,7 +1,7 @@
-use Rattle.std.proofs.Common.{◌≡◌, ◌≤◌, get_or, sym, refl, ◌∙◌, arith, rules}
+use Rattle.std.proofs.Common.{◌≤◌, sym, refl, ◌∙◌, arith, rules}
 use Rattle.cards.specs.Deck.{card_number}
 use Rattle.cards.proofs.Cardinals.{card_below}
-use Rattle.cards.proofs.Numbering.{noted_none, noted_twice, noted_more, noted_names, noted_pack, noted_once}
+use Rattle.cards.proofs.Numbering.{noted_none, noted_twice, noted_names, noted_pack, noted_once}
 use Rattle.cards.proofs.cutting.named_cards.Goals as goal
 
 pub loop-i-init : goal.loop-i-init
@@ -9,14 +9,6 @@ loop-i-init c = noted_none c.args.numbers.now _ (search rules)
 
 pub returns-then-replace : goal.returns-then-replace
 returns-then-replace c = noted_twice _ _ _ _ c.loop-i.invariant (omega arith) _ refl (sym c.replace.ensures.value ∙ c.if-replace.true)
-
-pub loop-i-preserved : goal.loop-i-preserved
-loop-i-preserved c =
-    let card = c.in_ok-cards.field-0 in
-    let names : card_number card ≡ get_or c.args.numbers.now c.loop-i.i 0 = search rules in
-    let new = sym c.replace.ensures.value ∙ c.if-replace.false in
-    let more = noted_more _ _ _ _ c.loop-i.invariant (omega arith) card _ names refl (omega (arith, card_below card)) new c.if-numbers-ne32.false in
-    rw c.replace.ensures.after more
 
 pub returns : goal.returns
 returns c =

@@ -1,12 +1,8 @@
-use Rattle.std.proofs.Common.{◌≡◌, cond, arith}
-use Rattle.std.proofs.lemmas.Bool.Decides.{nat_tests}
+use Rattle.std.proofs.Common.{◌≡◌, cond}
 use Rattle.std.proofs.lemmas.List.{get_or_default}
-use Rattle.cards.proofs.Scan.{best_none, best_more, is_first}
+use Rattle.cards.proofs.Scan.{best_more, is_first}
 use Rattle.cards.proofs.first.first.Goals as goal
 use Rattle.cards.proofs.first.first.Goals.{then-ahead, else-ahead}
-
-pub loop-i-init : goal.loop-i-init
-loop-i-init g c = best_none (g.O.Order.ahead c.args.order.now) c.args.items.now (grind (arith, nat_tests))
 
 pub loop-i-preserved : goal.loop-i-preserved
 loop-i-preserved g c =

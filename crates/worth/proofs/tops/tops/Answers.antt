@@ -1,7 +1,6 @@
-use Rattle.std.proofs.Common.{◌≡◌, ℕ, ◌<◌, Bool, true, false, get_or, refl, sym, ap, ◌∙◌, arith}
+use Rattle.std.proofs.Common.{◌≡◌, Bool, true, false, refl, sym, ◌∙◌}
 use Rattle.std.proofs.Math.Bool.{beq}
 use Rattle.std.proofs.lemmas.Bool.{true≢false}
-use Rattle.worth.specs.Tops.{is_among}
 use Rattle.worth.proofs.Fronts.{alike_more, alike_ends, tops_all}
 use Rattle.worth.proofs.tops.tops.Goals as goal
 use Rattle.worth.proofs.tops.tops.Goals.{in_default-top-2, in_default-top}
@@ -17,16 +16,6 @@ other_when true true e d = absurd (true≢false e)
 other_when false false e d = absurd (true≢false e)
 other_when true false e d = true≢false d
 other_when false true e d = true≢false (sym d)
-
-zero_from : {k : ℕ} → k < 1 → k ≡ 0
-zero_from h = omega arith
-
-pub loop-card-init : goal.loop-card-init
-loop-card-init g c =
-    let first = c.in-Some.ensures in (
-      first.0,
-      (λ k d h. ap (is_among c.args.cards.now) (ap (λ j. get_or (g.K.RatedKind.rated c.args.kind.now).run j d) (zero_from h) ∙ first.1 d) ∙ sym c.is_among-with.ensures),
-    )
 
 pub loop-card-preserved : goal.loop-card-preserved
 loop-card-preserved g c =
