@@ -6,7 +6,8 @@ ghost use Rattle.kinds.specs.Meanings.{Meaning};
 use cards::deck::Card;
 
 // A kind of game, known by its meaning: a class for each card, 0 to 3 for the suits and 4 for
-// trump, a rank in that class, and whether a trick of the declarer ends the play.
+// trump, a rank in that class, and whether a trick of the declarer ends the play. Classes and
+// ranks stay numbers: the rules state a kind's meaning and its laws in them.
 pub trait Kind {
     ghost meaning: { Self → Meaning };
 

@@ -12,7 +12,8 @@ use cards::order::Order;
 
 const TRUMP: u8 = 4;
 
-// A card's force in a trick: 2 for trump, else 1 in the led card's class, else 0.
+// A card's force in a trick: 2 for trump, else 1 in the led card's class, else 0. The rules give
+// these numbers and compare them.
 pub fn force<K: Kind>(kind: &K, led: Card, card: Card) -> u8
     ensures { result ≡ force_of (K.Kind.meaning kind.now) led card }
 {

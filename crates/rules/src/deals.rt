@@ -58,7 +58,8 @@ pub struct Board {
     pub trick: Trick,
 }
 
-// What every seat may see. In a settled deal `turn` means nothing.
+// What every seat may see. In a settled deal `turn` means nothing, and a bid of 0 is none. They
+// are no `Option`s: the rules tell a highest bid of 0, and the law reads both in every moment.
 #[derive(Clone, Copy, Drop)]
 pub struct Common {
     pub moment: Moment,
