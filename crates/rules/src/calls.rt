@@ -5,7 +5,7 @@ use worth::bids::Bid;
 use worth::levels::Level;
 
 // The seven acting calls, with the numbers that a seat names: a bid, card numbers, a game and a
-// level. Any number can be named.
+// level. They stay numbers here, since any number can be named and is refused in its turn.
 #[derive(Clone, Copy, Debug, PartialEq, Eq, Drop)]
 pub enum Call {
     Bid(u16),

@@ -78,7 +78,8 @@ fn counted<K: RatedKind>(deal: &Deal, kind: &K) -> Option<(Seat, GamePoints)>
     Some((announcement.declarer, tops::result(kind, &twelve, &game)))
 }
 
-// The declarer's seat and the game points of a settled deal, or 255 and none if it was passed in.
+// The declarer's seat and the game points of a settled deal, or 255 and none if it was passed in:
+// the pair that the rules ask for, where inside an `Option` tells it.
 pub fn result<K: RatedKind>(deal: &Deal, kind: &K) -> Result<(u8, GamePoints), Refusal>
     ensures { result ≡ result_of (K.RatedKind.rated kind.now) deal.now }
 {

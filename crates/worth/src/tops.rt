@@ -16,7 +16,7 @@ fn is_among(cards: &[Card; 12], card: Card) -> bool
 }
 
 // How many trumps from the club jack down are all among these cards, or all missing: the game
-// is with or without so many.
+// is with or without so many. The rules ask for a loop that breaks with its value.
 pub fn tops<K: RatedKind>(kind: &K, cards: &[Card; 12]) -> u8
     ensures value { result ≡ tops_of (K.RatedKind.rated kind.now).run cards.now }
     ensures bound { result ≤ length (K.RatedKind.rated kind.now).run }
