@@ -25,7 +25,7 @@ pub struct CutPack {
     ghost once: { (c : Card) → times (card_number c) (map card_number cards) ≡ 1 },
 }
 
-// A refusal, with the pack that there is instead.
+// A refusal, with the pack that there is instead; a pair would name neither.
 #[derive(Drop)]
 pub struct BadPack {
     pub refusal: Refusal,

@@ -29,6 +29,7 @@ fn entries(list: &ClosedList) -> ArrayVec<Entry, 4>
     ensures { result.items ≡ entries_of (places_number list.now.sheet.places) list.now.sheet.rows.items }
 {
     let mut entries = ArrayVec::new();
+    // A range over the places; nothing is indexed.
     for place in 0..u8::from(list.places()) {
         entries.push(Entry::from(list.totals(place).unwrap()));
     }

@@ -15,6 +15,7 @@ fn lines(heap: Global, list: &ClosedList) -> Result<String, AllocError>
     ensures { IfOk result (λ text. string_bytes text ≡ flat_map (place_text (places_number list.now.sheet.places) list.now.sheet.rows.items) (range_with_len 0 (places_number list.now.sheet.places))) }
 {
     let mut text = String::new(heap);
+    // A range over the places; nothing is indexed.
     for place in 0..u8::from(list.places()) {
         let totals = list.totals(place).unwrap();
         let rank = rank_of(list, place).unwrap();

@@ -24,7 +24,7 @@ const LOWEST: Card = Card {
     place: Place::Seven,
 };
 
-// Whether a game is null.
+// Whether a game is null, by its case alone.
 fn is_null(game: Game) -> bool
     ensures { result ≡ (game_number game == 5) }
 {

@@ -81,7 +81,8 @@ pub enum Pile {
 }
 
 // The whole deal. Only the piles, by the cards' numbers, hold what a seat may not know, and with
-// them the copy of the declarer's ten dealt cards and the skat, made at the announcement.
+// them the copy of the declarer's ten dealt cards and the skat, made at the announcement: twelve
+// cards by value, as the rules ask.
 #[derive(Clone, Copy, Drop)]
 pub struct Deal {
     pub common: Common,

@@ -43,7 +43,7 @@ impl Moment {
         self == Moment::Deciding
     }
 
-    // Whether a call can be made in this moment.
+    // Whether a call can be made in this moment: a table of patterns, and no equality.
     pub fn admits(self, call: Call) -> bool
         ensures { result ≡ in_row self call }
     {

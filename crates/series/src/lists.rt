@@ -57,7 +57,7 @@ impl<S> List<S> {
     }
 }
 
-// A refusal, with the empty list of three places that there is instead.
+// A refusal, with the empty list of three places that there is instead; a pair would name neither.
 #[derive(Drop)]
 pub struct BadPlaces {
     pub refusal: Refusal,

@@ -35,7 +35,7 @@ fn four_at(bytes: &[u8], i: usize) -> usize
     u32::from_le_bytes([bytes[i], bytes[i + 1], bytes[i + 2], bytes[i + 3]]) as usize
 }
 
-// Whether a file begins with the tag.
+// Whether a file begins with the tag, which one pattern names.
 fn is_tag(file: &[u8]) -> bool
     ensures { result ≡ is_tag file.now }
 {

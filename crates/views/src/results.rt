@@ -16,7 +16,8 @@ use worth::finished::{Finished, Side, Tricks};
 use worth::rated::RatedKind;
 use worth::tops;
 
-// Whether a card here counts for the declarer: in its tricks, in the skat or put away.
+// Whether a card here counts for the declarer: in its tricks, in the skat or put away. One
+// pattern with two cases is plainer than two equalities.
 fn is_declarers(pile: Pile) -> bool
     ensures { result ≡ is_declarers pile }
 {

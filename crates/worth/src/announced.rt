@@ -55,6 +55,8 @@ impl TryFrom<u8> for Game {
     }
 }
 
+// Each method asks the game that it is. They differ in what they call and not in a type, so one
+// function for them would be no plainer.
 impl Kind for Game {
     ghost meaning = { game_meaning };
 
@@ -87,6 +89,7 @@ impl Kind for Game {
     }
 }
 
+// As above.
 impl RatedKind for Game {
     const RUN: usize = 11;
 

@@ -14,7 +14,7 @@ fn is_multiple(value: u16, base: u16, most: u16) -> bool
     value % base == 0 && value / base >= 2 && value / base <= most
 }
 
-// Whether a number is a bid value.
+// Whether a number is a bid value. One pattern names the four values of null.
 pub fn is_bid_value(value: u16) -> bool
     ensures { result ≡ is_bid value }
 {
