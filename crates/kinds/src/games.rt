@@ -7,17 +7,17 @@ use super::kind::Kind;
 use cards::deck::{Card, Place, Suit};
 
 // Trumps are the jacks and the cards of one suit.
-#[derive(Clone, Copy, Drop)]
+#[derive(Clone, Copy, Debug, PartialEq, Eq, Drop)]
 pub struct SuitGame {
     pub trump: Suit,
 }
 
 // Only the jacks are trump.
-#[derive(Clone, Copy, Drop)]
+#[derive(Clone, Copy, Debug, PartialEq, Eq, Drop)]
 pub struct Grand;
 
 // There is no trump, and a trick of the declarer ends it.
-#[derive(Clone, Copy, Drop)]
+#[derive(Clone, Copy, Debug, PartialEq, Eq, Drop)]
 pub struct Null;
 
 // The rank in a suit from which the jack is taken: ace, ten, king, queen, nine, eight, seven.

@@ -11,7 +11,7 @@ use cards::units::Rating;
 use std::cmp::Reverse;
 
 // What a place is ranked by.
-#[derive(Clone, Copy, PartialEq, Eq, Drop)]
+#[derive(Clone, Copy, Debug, PartialEq, Eq, Drop)]
 pub struct Entry {
     pub rating: Rating,
     pub won: u32,

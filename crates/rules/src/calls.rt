@@ -18,7 +18,7 @@ pub enum Call {
 }
 
 // A call that is refused for nothing, with what its numbers name.
-#[derive(Clone, Copy, Drop)]
+#[derive(Clone, Copy, Debug, PartialEq, Eq, Drop)]
 pub enum Act {
     Bid(Bid),
     Hold,

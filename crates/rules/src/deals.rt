@@ -15,7 +15,7 @@ pub enum Pair {
 }
 
 // A game as its declarer announced it.
-#[derive(Clone, Copy, Drop)]
+#[derive(Clone, Copy, Debug, PartialEq, Eq, Drop)]
 pub struct Announcement {
     pub declarer: Seat,
     pub game: Game,
@@ -25,7 +25,7 @@ pub struct Announcement {
 
 // How far the deal has a declarer: not yet or not at all, one who is to decide, one who took the
 // skat, or one who announced a game.
-#[derive(Clone, Copy, Drop)]
+#[derive(Clone, Copy, Debug, PartialEq, Eq, Drop)]
 pub enum Contract {
     Undecided,
     Won(Seat),
@@ -51,7 +51,7 @@ pub struct Taken {
 }
 
 // The play: the tricks of each side, who leads or has led, and the trick on the table.
-#[derive(Clone, Copy, Drop)]
+#[derive(Clone, Copy, Debug, PartialEq, Eq, Drop)]
 pub struct Board {
     pub taken: Taken,
     pub leader: Seat,
@@ -60,7 +60,7 @@ pub struct Board {
 
 // What every seat may see. In a settled deal `turn` means nothing, and a bid of 0 is none. They
 // are no `Option`s: the rules tell a highest bid of 0, and the law reads both in every moment.
-#[derive(Clone, Copy, Drop)]
+#[derive(Clone, Copy, Debug, PartialEq, Eq, Drop)]
 pub struct Common {
     pub moment: Moment,
     pub turn: Seat,
@@ -83,7 +83,7 @@ pub enum Pile {
 // The whole deal. Only the piles, by the cards' numbers, hold what a seat may not know, and with
 // them the copy of the declarer's ten dealt cards and the skat, made at the announcement: twelve
 // cards by value, as the rules ask.
-#[derive(Clone, Copy, Drop)]
+#[derive(Clone, Copy, Debug, PartialEq, Eq, Drop)]
 pub struct Deal {
     pub common: Common,
     pub piles: [Pile; 32],

@@ -5,7 +5,7 @@ use rules::calls::Call;
 
 // One of the ten calls, by the number of a seat: an acting call, a sight into a buffer of some
 // length, the permitted cards, or the result, which no seat asks for.
-#[derive(Clone, Copy, Drop)]
+#[derive(Clone, Copy, Debug, PartialEq, Eq, Drop)]
 pub enum Request {
     Act(u8, Call),
     Sight(u8, usize),
@@ -15,7 +15,7 @@ pub enum Request {
 
 // What it is answered: that it was accepted, the bytes of a sight, the permitted cards as bits, or
 // declarer and game points; or a refusal.
-#[derive(Clone, Copy, Drop)]
+#[derive(Clone, Copy, Debug, PartialEq, Eq, Drop)]
 pub enum Answer {
     Acted(Result<(), Refusal>),
     Saw(Result<[u8; 42], Refusal>),

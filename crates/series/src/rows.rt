@@ -12,14 +12,14 @@ use cards::units::GamePoints;
 pub(super) const MOST_ROWS: usize = 48;
 
 // How many places a list has.
-#[derive(Clone, Copy, PartialEq, Eq, Drop)]
+#[derive(Clone, Copy, Debug, PartialEq, Eq, Drop)]
 pub enum Places {
     Three,
     Four,
 }
 
 // A row of a list: a deal that was passed in, or a game with its declarer and what it counts.
-#[derive(Clone, Copy, Default, PartialEq, Eq, Drop)]
+#[derive(Clone, Copy, Debug, Default, PartialEq, Eq, Drop)]
 pub enum Row {
     #[default]
     PassedIn,

@@ -13,7 +13,7 @@ use std::fmt;
 use std::fmt::Display;
 
 // A place's game points, games won, games lost and rating.
-#[derive(Clone, Copy, Drop)]
+#[derive(Clone, Copy, Debug, PartialEq, Eq, Drop)]
 pub struct Totals {
     pub points: GamePoints,
     pub won: u32,

@@ -17,7 +17,7 @@ use cards::units::GamePoints;
 use kinds::games::{Grand, Null, SuitGame};
 use kinds::kind::Kind;
 
-#[derive(Clone, Copy, Drop)]
+#[derive(Clone, Copy, Debug, PartialEq, Eq, Drop)]
 pub enum Game {
     Suit(SuitGame),
     Grand(Grand),
