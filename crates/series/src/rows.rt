@@ -14,8 +14,8 @@ pub(super) const MOST_ROWS: usize = 48;
 // How many places a list has.
 #[derive(Clone, Copy, Debug, PartialEq, Eq, Drop)]
 pub enum Places {
-    Three,
-    Four,
+    Three = 3,
+    Four = 4,
 }
 
 // A row of a list: a deal that was passed in, or a game with its declarer and what it counts.
@@ -31,10 +31,7 @@ impl From<Places> for u8 {
 
     // The number of places.
     fn from(places: Places) -> u8 {
-        match places {
-            Places::Three => 3,
-            Places::Four => 4,
-        }
+        places as u8
     }
 }
 
