@@ -1,6 +1,7 @@
 // Setting a pack, putting its mark and cutting it.
-ghost use Rattle.std.specs.Prelude.{◌≡◌, ◌<◌, true, false, not, map, is_ok, if◌then◌else◌, MatchOption, slice_index_or, slice_set};
+ghost use Rattle.std.specs.Prelude.{◌≡◌, ◌<◌, true, false, not, map, is_ok, if◌then◌else◌, MatchResult, slice_index_or, slice_set};
 ghost use Rattle.std.specs.List.{range_with_len};
+ghost use Rattle.cards.specs.declared.refusals.Refusal.TheVariants.{NotAPack};
 ghost use Rattle.cards.specs.Deck.{card_number};
 ghost use Rattle.cards.specs.Packs.{IsPack, cut_at, mark_refusal, times};
 ghost use Rattle.cards.specs.Setting.{PackSet};
@@ -12,21 +13,21 @@ use super::refusals::Refusal;
 use std::mem;
 
 // The cards of these numbers, if they are 32 different cards.
-fn named_cards(numbers: &[u8]) -> Option<[Card; 32]>
-    ensures { MatchOption result (IsPack numbers.now → ⊥) (λ cards. IsPack numbers.now × (map card_number cards ≡ numbers.now) × ((c : Card) → times (card_number c) numbers.now ≡ 1)) }
+fn named_cards(numbers: &[u8]) -> Result<[Card; 32], Refusal>
+    ensures { MatchResult result (λ cards. IsPack numbers.now × (map card_number cards ≡ numbers.now) × ((c : Card) → times (card_number c) numbers.now ≡ 1)) (λ refusal. (refusal ≡ NotAPack) × (IsPack numbers.now → ⊥)) }
 {
     if numbers.len() != 32 {
-        return None;
+        return Err(Refusal::NotAPack);
     }
     let mut cards = Card::deck();
     let mut seen = [false; 32];
     for (i, number) in numbers.iter().enumerate() {
-        cards[i] = Card::try_from(*number).ok()?;
+        cards[i] = Card::try_from(*number).map_err(|_| Refusal::NotAPack)?;
         if mem::replace(&mut seen[*number as usize], true) {
-            return None;
+            return Err(Refusal::NotAPack);
         }
     }
-    Some(cards)
+    Ok(cards)
 }
 
 impl UncutPack {
@@ -36,9 +37,8 @@ impl UncutPack {
         ensures { PackSet numbers.now result }
     {
         match named_cards(numbers) {
-            Some(cards) => Ok(UncutPack { cards, mark: 16 }),
-            None => {
-                let refusal = Refusal::NotAPack;
+            Ok(cards) => Ok(UncutPack { cards, mark: 16 }),
+            Err(refusal) => {
                 let cards = Card::deck();
                 let pack = UncutPack { cards, mark: 16 };
                 Err(BadPack { refusal, pack })

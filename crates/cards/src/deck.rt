@@ -86,6 +86,8 @@ impl Card {
     }
 }
 
+// Suits, places and cards convert alike, and so do seats, games and levels. Each has its own impl,
+// since none may be written by a macro.
 impl From<Suit> for u8 {
     ghost from_gives = { λ suit number. number ≡ suit_number suit };
 
@@ -102,13 +104,10 @@ impl TryFrom<u8> for Suit {
 
     // The suit of this number, if there is one.
     fn try_from(number: u8) -> Result<Suit, Refusal> {
-        match number {
-            0 => Ok(Suit::Diamonds),
-            1 => Ok(Suit::Hearts),
-            2 => Ok(Suit::Spades),
-            3 => Ok(Suit::Clubs),
-            _ => Err(Refusal::NoSuchCard),
-        }
+        SUITS
+            .get(usize::from(number))
+            .copied()
+            .ok_or(Refusal::NoSuchCard)
     }
 }
 
@@ -128,17 +127,10 @@ impl TryFrom<u8> for Place {
 
     // The place of this number, if there is one.
     fn try_from(number: u8) -> Result<Place, Refusal> {
-        match number {
-            0 => Ok(Place::Seven),
-            1 => Ok(Place::Eight),
-            2 => Ok(Place::Nine),
-            3 => Ok(Place::Queen),
-            4 => Ok(Place::King),
-            5 => Ok(Place::Ten),
-            6 => Ok(Place::Ace),
-            7 => Ok(Place::Jack),
-            _ => Err(Refusal::NoSuchCard),
-        }
+        PLACES
+            .get(usize::from(number))
+            .copied()
+            .ok_or(Refusal::NoSuchCard)
     }
 }
 

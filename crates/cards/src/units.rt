@@ -14,9 +14,10 @@ pub struct Eyes(pub u8);
 pub struct GamePoints(pub i32);
 
 // What a place of a list stands at: game points with the shares for games won and lost.
-#[derive(Clone, Copy, Debug, PartialEq, Eq, Drop)]
+#[derive(Clone, Copy, Debug, Default, PartialEq, Eq, Drop)]
 pub struct Rating(pub i32);
 
+// The two texts are alike and stand twice, since no impl may be written by a macro.
 impl fmt::Display for GamePoints {
     ghost output = { λ points. Some (signed_decimal points.0) };
 

@@ -21,7 +21,7 @@ pub struct Grand;
 pub struct Null;
 
 // The rank in a suit from which the jack is taken: ace, ten, king, queen, nine, eight, seven.
-// A jack is never asked about.
+// A jack is never asked about. A rank is a number, as in `Kind`.
 fn plain_rank(place: Place) -> u8
     ensures { result ≡ plain_rank_of place }
 {
@@ -36,7 +36,7 @@ fn plain_rank(place: Place) -> u8
     }
 }
 
-// The rank in null: ace, king, queen, jack, ten, nine, eight, seven.
+// The rank in null: ace, king, queen, jack, ten, nine, eight, seven. A number, as in `Kind`.
 fn null_rank(place: Place) -> u8
     ensures { result ≡ null_rank_in place }
 {

@@ -13,7 +13,8 @@ use cards::order::Order;
 const TRUMP: u8 = 4;
 
 // A card's force in a trick: 2 for trump, else 1 in the led card's class, else 0. The rules give
-// these numbers and compare them.
+// these numbers and compare them. The kind and the led card are two parameters of three functions;
+// a struct of both would be made anew for each call and taken apart again.
 pub fn force<K: Kind>(kind: &K, led: Card, card: Card) -> u8
     ensures { result ≡ force_of (K.Kind.meaning kind.now) led card }
 {
@@ -93,8 +94,5 @@ pub fn taker<K: Kind>(kind: &K, trick: [Card; 3]) -> usize
         Strength::of_card(kind, led, trick[1]),
         Strength::of_card(kind, led, trick[2]),
     ];
-    match first(&ByStrength, &strengths) {
-        Some(i) => i,
-        None => unreachable(),
-    }
+    first(&ByStrength, &strengths).unwrap()
 }

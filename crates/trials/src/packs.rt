@@ -18,12 +18,14 @@ fn the_club_jack_is_the_last_card(rt: HostRuntime) {
 }
 
 #[test]
-fn the_eyes_of_a_pack_make_120(rt: HostRuntime) {
+fn the_eyes_of_a_pack_make_120(rt: HostRuntime) -> Result<(), Fail> {
     let mut eyes = 0u16;
-    for card in Card::deck() {
+    for number in 0..32u8 {
+        let card = Card::try_from(number).ok().ok_or("no card")?;
         eyes = eyes.saturating_add(u16::from(card.eyes().0));
     }
     assert_eq!(rt; eyes, 120);
+    Ok(())
 }
 
 // A pack in the order of the numbers, cut in the middle.

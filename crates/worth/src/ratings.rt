@@ -9,6 +9,8 @@ use cards::deck::{Card, Place, Suit};
 use cards::units::GamePoints;
 use kinds::games::{Grand, Null, SuitGame};
 
+// Each kind answers the length of its own run. It is a method too, since a `Game` is of one of
+// three lengths, which no constant of its tells.
 impl RatedKind for SuitGame {
     const RUN: usize = 11;
 

@@ -8,7 +8,7 @@ pub loop-i-init : goal.loop-i-init
 loop-i-init c = noted_none c.args.numbers.now _ (search rules)
 
 pub returns-then-replace : goal.returns-then-replace
-returns-then-replace c = noted_twice _ _ _ _ c.loop-i.invariant (omega arith) _ refl (sym c.replace.ensures.value ∙ c.if-replace.true)
+returns-then-replace c = (refl, noted_twice _ _ _ _ c.loop-i.invariant (omega arith) _ refl (sym c.replace.ensures.value ∙ c.if-replace.true))
 
 pub returns : goal.returns
 returns c =

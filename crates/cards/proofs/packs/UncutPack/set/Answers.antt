@@ -5,5 +5,5 @@ use Rattle.cards.proofs.packs.UncutPack.set.Goals as goal
 
 pub invariant_of-result-clause-once : goal.invariant_of-result-clause-once
 invariant_of-result-clause-once c =
-    let named = c.in-Some.ensures in
+    let named = c.in-Ok.ensures in
     λ card. ap (times (card_number card)) named.1 ∙ named.2 card
