@@ -42,9 +42,6 @@ pub fn report(heap: Global, file: &[u8]) -> Result<String, AllocError>
     let mut list = OpenList::empty(heap, Places::Three)?.close();
     match list.read(file) {
         Ok(()) => standing(heap, &list),
-        Err(refusal) => {
-            let number = u8::from(refusal);
-            format!(in heap; "{number}\n")
-        }
+        Err(refusal) => format!(in heap; "{refusal}\n"),
     }
 }

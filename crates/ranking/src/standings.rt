@@ -1,7 +1,7 @@
 // The standing of several places: who is ahead of whom, and which rank that gives.
 ghost use Rattle.std.specs.Prelude.{◌≡◌, length, MatchOption};
 ghost use Rattle.cards.specs.First.{IsFirst};
-ghost use Rattle.ranking.specs.Standings.{is_ahead, no_entry, rank_answer, EarliestOfRankOne};
+ghost use Rattle.ranking.specs.Standings.{is_ahead, rank_answer, EarliestOfRankOne};
 ghost use Rattle.ranking.specs.Orders.{ahead_irreflexive, ahead_transitive, ahead_weak};
 
 use cards::first::first;
@@ -11,24 +11,11 @@ use cards::units::Rating;
 use std::cmp::Reverse;
 
 // What a place is ranked by.
-#[derive(Clone, Copy, Debug, PartialEq, Eq, Drop)]
+#[derive(Clone, Copy, Debug, Default, PartialEq, Eq, Drop)]
 pub struct Entry {
     pub rating: Rating,
     pub won: u32,
     pub lost: u32,
-}
-
-impl Default for Entry {
-    ghost is_default = { λ entry. entry ≡ no_entry };
-
-    // The entry of a place without rows; by hand, since a rating has no default of its own.
-    fn default() -> Entry {
-        Entry {
-            rating: Rating(0),
-            won: 0,
-            lost: 0,
-        }
-    }
 }
 
 // Ahead is the higher rating, then more games won, then fewer lost.
