@@ -52,7 +52,8 @@ impl OpenList {
         }
     }
 
-    // Enters the row of this role and these points.
+    // Enters the row of this role and these points. A role is a number as the rules give it,
+    // 255 where the deal was passed in.
     pub fn enter(&mut self, role: u8, points: GamePoints) -> Result<(), Refusal>
         ensures answer { result ≡ answered (entry_refusal (vec_len self.old.sheet.rows) role points.0) tt }
         ensures places { self.new.sheet.places ≡ self.old.sheet.places }

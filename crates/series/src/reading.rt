@@ -18,8 +18,8 @@ struct Header {
     offset: usize,
 }
 
-// The number in two bytes, low byte first. It is a number of another type than that in four,
-// so one function for both would be no plainer.
+// The number in two bytes, low byte first. `from_le_bytes` is of no trait, so one function for
+// this and `four_at` would need a trait of its own.
 fn two_at(bytes: &[u8], i: usize) -> usize
     requires { i + 1 < length bytes.now }
     ensures { result ≡ two_at bytes.now i }

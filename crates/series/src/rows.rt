@@ -19,6 +19,8 @@ pub enum Places {
 }
 
 // A row of a list: a deal that was passed in, or a game with its declarer and what it counts.
+// Its points are any number, since anyone may make a row; that a row is allowed is said in
+// contracts (`is_row`), and lists keep it.
 #[derive(Clone, Copy, Debug, Default, PartialEq, Eq, Drop)]
 pub enum Row {
     #[default]
@@ -63,7 +65,8 @@ pub(super) fn declarer_of(role: u8) -> Result<Option<Seat>, Refusal>
 }
 
 impl Row {
-    // The row of this role and these points.
+    // The row of this role and these points. A role is a number as the rules give it, 255
+    // where the deal was passed in.
     pub fn new(role: u8, points: GamePoints) -> Result<Row, Refusal>
         ensures { RowMade role points.0 result }
     {
@@ -86,5 +89,5 @@ impl Row {
 fn is_game_value(points: GamePoints) -> bool
     ensures { result ≡ is_game_value points.0 }
 {
-    points.0 >= -540 && points.0 <= 264 && points.0 != 0
+    (-540..=264).contains(&points.0) && points.0 != 0
 }

@@ -137,30 +137,30 @@ impl Row {
 }
 
 impl Tally {
-    // The tally with a row counted too. Its bounds grow with the number of rows, so they are
+    // The tally with a deal's row counted too. Its bounds grow with the number of rows, so they are
     // asked here, and are no invariant of a tally.
-    fn with_row(self, row: RowFor) -> Tally
-        requires points { (neg_ℤ (pos (540 * row.i)) ≤ℤ self.points.0) × (self.points.0 ≤ℤ pos (264 * row.i)) }
-        requires games { (self.won ≤ row.i) × ((self.lost ≤ row.i) × (self.defended ≤ row.i)) }
-        ensures points { result.points.0 ≡ self.points.0 +ℤ counts_for (places_number row.places) row.place row.i row.row }
-        ensures won { result.won ≡ self.won + (if wins_in (places_number row.places) row.place row.i row.row then 1 else 0) }
-        ensures lost { result.lost ≡ self.lost + (if loses_in (places_number row.places) row.place row.i row.row then 1 else 0) }
-        ensures defended { result.defended ≡ self.defended + (if defends_loss_in (places_number row.places) row.place row.i row.row then 1 else 0) }
-        ensures low { neg_ℤ (pos (540 * (row.i + 1))) ≤ℤ result.points.0 }
-        ensures high { result.points.0 ≤ℤ pos (264 * (row.i + 1)) }
+    fn with_row(self, deal: RowFor) -> Tally
+        requires points { (neg_ℤ (pos (540 * deal.i)) ≤ℤ self.points.0) × (self.points.0 ≤ℤ pos (264 * deal.i)) }
+        requires games { (self.won ≤ deal.i) × ((self.lost ≤ deal.i) × (self.defended ≤ deal.i)) }
+        ensures points { result.points.0 ≡ self.points.0 +ℤ counts_for (places_number deal.places) deal.place deal.i deal.row }
+        ensures won { result.won ≡ self.won + (if wins_in (places_number deal.places) deal.place deal.i deal.row then 1 else 0) }
+        ensures lost { result.lost ≡ self.lost + (if loses_in (places_number deal.places) deal.place deal.i deal.row then 1 else 0) }
+        ensures defended { result.defended ≡ self.defended + (if defends_loss_in (places_number deal.places) deal.place deal.i deal.row then 1 else 0) }
+        ensures low { neg_ℤ (pos (540 * (deal.i + 1))) ≤ℤ result.points.0 }
+        ensures high { result.points.0 ≤ℤ pos (264 * (deal.i + 1)) }
     {
-        let won = row.row.is_won();
-        let lost = row.row.is_lost();
+        let declares = deal.declares();
+        let lost = deal.row.is_lost();
         Tally {
-            points: GamePoints(self.points.0 + row.points().0),
-            won: self.won + (row.declares() & won) as u32,
-            lost: self.lost + (row.declares() & lost) as u32,
-            defended: self.defended + (row.defends() & lost) as u32,
+            points: GamePoints(self.points.0 + deal.points().0),
+            won: self.won + u32::from(declares && deal.row.is_won()),
+            lost: self.lost + u32::from(declares && lost),
+            defended: self.defended + u32::from(deal.defends() && lost),
         }
     }
 
     // Game points, 50 for each game won, less 50 for each game lost, and 40 for each loss
-    // defended.
+    // defended. What it asks are the bounds of `with_row` at 48 rows.
     fn rating(self) -> Rating
         requires points { (neg_ℤ (pos (540 * 48)) ≤ℤ self.points.0) × (self.points.0 ≤ℤ pos (264 * 48)) }
         requires games { (self.won ≤ 48) × ((self.lost ≤ 48) × (self.defended ≤ 48)) }

@@ -9,7 +9,8 @@ use super::rows::Row;
 use cards::refusals::Refusal;
 
 impl Row {
-    // The number of the row's role: the declarer's, or 255 where the deal was passed in.
+    // The row's role, which is a number as the rules give it: the declarer's, or 255 where the
+    // deal was passed in.
     pub fn role(self) -> u8
         ensures { result ≡ role_number self }
     {
@@ -23,10 +24,7 @@ impl Row {
     pub fn is_game(self) -> bool
         ensures { result ≡ is_game self }
     {
-        match self {
-            Row::PassedIn => false,
-            Row::Game(_, _) => true,
-        }
+        self != Row::PassedIn
     }
 }
 
