@@ -1,12 +1,10 @@
 // What the declarer does: take the skat or not, and announce a game.
 ghost use Rattle.std.specs.Prelude.{◌≡◌, Bool, List, ◌==◌};
-ghost use Rattle.cards.specs.Refusals.{topmost};
 ghost use Rattle.kinds.specs.Meanings.{Meaning};
 ghost use Rattle.worth.specs.Announced.{game_number};
 ghost use Rattle.worth.specs.Levels.{level_number, is_open_level};
 ghost use Rattle.rules.specs.declared.calls.Call.TheVariants.{Announce};
-ghost use Rattle.rules.specs.Acts.{Admits};
-ghost use Rattle.rules.specs.Refusing.{own_refusals};
+ghost use Rattle.rules.specs.Acts.{AdmitsOwn};
 ghost use Rattle.rules.specs.Steps.{takes_skat, announces as announces_by, twelve_of};
 
 use super::calls::Act;
@@ -65,7 +63,7 @@ impl Common {
 
     // The game and the level of these numbers, if they can be announced.
     pub(super) fn admit_announce(self, game: u8, level: u8) -> Result<Act, Refusal>
-        ensures { (m : Meaning) (own : List Bool) → Admits (Announce game level) (topmost (own_refusals m self own (Announce game level))) result }
+        ensures { (m : Meaning) (own : List Bool) → AdmitsOwn m self own (Announce game level) result }
     {
         let game = Game::try_from(game)?;
         let level = Level::try_from(level)?;
@@ -74,7 +72,7 @@ impl Common {
         if !is_open_level(level, null, hand) {
             return Err(Refusal::LevelNotOpen);
         }
-        if null && null_value(level, hand) < self.bid as u32 {
+        if null && null_value(level, hand) < u32::from(self.bid) {
             return Err(Refusal::NullBelowBid);
         }
         Ok(Act::Announce(game, level))

@@ -1,11 +1,10 @@
 // What an acting call is refused for, and what it comes to otherwise.
 ghost use Rattle.std.specs.Prelude.{Bool, List};
-ghost use Rattle.cards.specs.Refusals.{topmost};
 ghost use Rattle.kinds.specs.Meanings.{Meaning};
 ghost use Rattle.rules.specs.declared.calls.Call.TheVariants.{Put, Play};
-ghost use Rattle.rules.specs.Acts.{Admits};
+ghost use Rattle.rules.specs.Acts.{Admits, AdmitsOwn};
 ghost use Rattle.rules.specs.Piles.{holding};
-ghost use Rattle.rules.specs.Refusing.{own_refusals, refusal_of};
+ghost use Rattle.rules.specs.Refusing.{refusal_of};
 
 use super::calls::{Act, Call};
 use super::deals::{Common, Deal};
@@ -20,7 +19,7 @@ use worth::bids::Bid;
 impl Common {
     // The bid of this value, if it can be made.
     fn admit_bid(self, value: u16) -> Result<Act, Refusal>
-        ensures { (m : Meaning) (own : List Bool) → Admits (Call.Bid value) (topmost (own_refusals m self own (Call.Bid value))) result }
+        ensures { (m : Meaning) (own : List Bool) → AdmitsOwn m self own (Call.Bid value) result }
     {
         let bid = Bid::try_from(value)?;
         if value <= self.bid {
@@ -33,7 +32,7 @@ impl Common {
 impl Deal {
     // The cards of these numbers, if a seat can put them.
     fn admit_put(&self, seat: Seat, a: u8, b: u8) -> Result<Act, Refusal>
-        ensures { (m : Meaning) → Admits (Put a b) (topmost (own_refusals m self.now.common (holding seat self.now.piles) (Put a b))) result }
+        ensures { (m : Meaning) → AdmitsOwn m self.now.common (holding seat self.now.piles) (Put a b) result }
     {
         let a = Card::try_from(a)?;
         let b = Card::try_from(b)?;
@@ -48,7 +47,7 @@ impl Deal {
 
     // The card of this number, if a seat can play it.
     fn admit_play<K: Kind>(&self, kind: &K, seat: Seat, card: u8) -> Result<Act, Refusal>
-        ensures { Admits (Play card) (topmost (own_refusals (K.Kind.meaning kind.now) self.now.common (holding seat self.now.piles) (Play card))) result }
+        ensures { AdmitsOwn (K.Kind.meaning kind.now) self.now.common (holding seat self.now.piles) (Play card) result }
     {
         let card = Card::try_from(card)?;
         if !holds(&self.piles, seat, card) {
@@ -63,7 +62,7 @@ impl Deal {
 
     // What a call comes to in its moment, if nothing is wrong with it.
     fn admit_own<K: Kind>(&self, kind: &K, seat: Seat, call: Call) -> Result<Act, Refusal>
-        ensures { Admits call (topmost (own_refusals (K.Kind.meaning kind.now) self.now.common (holding seat self.now.piles) call)) result }
+        ensures { AdmitsOwn (K.Kind.meaning kind.now) self.now.common (holding seat self.now.piles) call result }
     {
         match call {
             Call::Bid(value) => self.common.admit_bid(value),
