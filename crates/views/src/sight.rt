@@ -164,7 +164,7 @@ fn viewer(seat: u8, room: usize) -> Result<Seat, Refusal>
 }
 
 // A seat's sight as a value, where a buffer of this length could take it.
-pub fn sight_bytes(deal: &Deal, seat: u8, room: usize) -> Result<[u8; 42], Refusal>
+pub fn sight_bytes(deal: &Deal, seat: u8, room: usize) -> Result<[u8; SIGHT_LENGTH], Refusal>
     ensures { result ≡ seen_by deal.now (seat_at seat) room }
 {
     let seat = viewer(seat, room)?;
