@@ -1,7 +1,7 @@
 // What a pile says of a card, how cards move between piles, and who the declarer is.
 ghost use Rattle.std.specs.Prelude.{◌≡◌, ◌<◌, false, slice_index_or};
 ghost use Rattle.cards.specs.Deck.{card_number};
-ghost use Rattle.rules.specs.Piles.{is_held, is_in_skat, is_held_or_in_skat, holding};
+ghost use Rattle.rules.specs.Piles.{is_held, is_in_skat, is_held_or_in_skat, holding, pile_in};
 ghost use Rattle.rules.specs.Steps.{lifted as lifted_to, gathered as gathered_for};
 ghost use Rattle.rules.specs.Board.{declarer_of, is_declarer};
 
@@ -61,11 +61,27 @@ pub(super) fn place_of(card: Card) -> usize
     u8::from(card) as usize
 }
 
-// Whether a seat holds a card.
-pub fn holds(piles: &[Pile; 32], seat: Seat, card: Card) -> bool
-    ensures { result ≡ slice_index_or (holding seat piles.now) (card_number card) false }
+// Where a card lies. The piles stand alone: the check does not know that those in a `Hand` are 32.
+fn pile_of(piles: &[Pile; 32], card: Card) -> Pile
+    ensures { result ≡ pile_in piles.now card }
 {
-    piles[place_of(card)].is_held(seat)
+    piles[place_of(card)]
+}
+
+// A seat's cards, told from the piles.
+#[derive(Clone, Copy, Drop)]
+pub struct Hand<'a> {
+    pub piles: &'a [Pile; 32],
+    pub seat: Seat,
+}
+
+impl<'a> Hand<'a> {
+    // Whether the seat holds a card.
+    pub fn holds(self, card: Card) -> bool
+        ensures { result ≡ slice_index_or (holding self.entry.seat self.entry.piles.now) (card_number card) false }
+    {
+        pile_of(self.piles, card).is_held(self.seat)
+    }
 }
 
 impl Contract {

@@ -8,8 +8,8 @@ ghost use Rattle.rules.specs.Refusing.{refusal_of};
 
 use super::calls::{Act, Call};
 use super::deals::{Common, Deal};
-use super::piles::holds;
-use super::serving::{class_to_serve, is_of_class};
+use super::piles::Hand;
+use super::serving::is_of_class;
 use cards::deck::Card;
 use cards::refusals::Refusal;
 use cards::seats::Seat;
@@ -39,7 +39,11 @@ impl Deal {
         if a == b {
             return Err(Refusal::SameCardTwice);
         }
-        if !(holds(&self.piles, seat, a) && holds(&self.piles, seat, b)) {
+        let hand = Hand {
+            piles: &self.piles,
+            seat,
+        };
+        if !(hand.holds(a) && hand.holds(b)) {
             return Err(Refusal::CardNotHeld);
         }
         Ok(Act::Put(a, b))
@@ -50,10 +54,14 @@ impl Deal {
         ensures { AdmitsOwn (K.Kind.meaning kind.now) self.now.common (holding seat self.now.piles) (Play card) result }
     {
         let card = Card::try_from(card)?;
-        if !holds(&self.piles, seat, card) {
+        let hand = Hand {
+            piles: &self.piles,
+            seat,
+        };
+        if !hand.holds(card) {
             return Err(Refusal::CardNotHeld);
         }
-        let class = class_to_serve(kind, &self.piles, seat, self.common.board.trick);
+        let class = hand.class_to_serve(kind, self.common.board.trick);
         if !is_of_class(kind, class, card) {
             return Err(Refusal::LedClassHeld);
         }

@@ -8,7 +8,8 @@ use rules::deals::Pile;
 // What a byte holds that names no card and no seat.
 pub const NONE: u8 = 255;
 
-// The cards that a seat holds, as a mark for each card.
+// The cards that a seat holds, as a mark for each card. Tried with a `Hand`: the proof does not
+// close, for the check does not know that the piles in it are 32.
 pub fn held_marks(piles: &[Pile; 32], seat: Seat) -> [bool; 32]
     ensures { result ≡ holding seat piles.now }
 {

@@ -10,10 +10,10 @@ ghost use Rattle.views.specs.Permitted.{is_playable, playable_of};
 use cards::deck::Card;
 use cards::seats::Seat;
 use kinds::kind::Kind;
-use rules::deals::{Common, Deal, Pile};
+use rules::deals::{Common, Deal};
 use rules::moments::Moment;
-use rules::piles::holds;
-use rules::serving::{class_to_serve, is_of_class};
+use rules::piles::Hand;
+use rules::serving::is_of_class;
 
 // Whether a seat is to play a card.
 fn is_to_play(common: &Common, seat: Seat) -> bool
@@ -23,25 +23,19 @@ fn is_to_play(common: &Common, seat: Seat) -> bool
 }
 
 // Whether a seat holds a card, and the card is of the class to serve.
-fn is_playable<K: Kind>(
-    kind: &K,
-    piles: &[Pile; 32],
-    seat: Seat,
-    class: Option<u8>,
-    card: Card,
-) -> bool
-    ensures { result ≡ is_playable (K.Kind.meaning kind.now) (holding seat piles.now) class (card_number card) }
+fn is_playable<K: Kind>(kind: &K, hand: Hand, class: Option<u8>, card: Card) -> bool
+    ensures { result ≡ is_playable (K.Kind.meaning kind.now) (holding hand.entry.seat hand.entry.piles.now) class (card_number card) }
 {
-    holds(piles, seat, card) && is_of_class(kind, class, card)
+    hand.holds(card) && is_of_class(kind, class, card)
 }
 
 // The cards that a seat holds and that are of the class to serve, as bits.
-fn playable<K: Kind>(kind: &K, piles: &[Pile; 32], seat: Seat, class: Option<u8>) -> u32
-    ensures { result ≡ playable_of (K.Kind.meaning kind.now) (holding seat piles.now) class }
+fn playable<K: Kind>(kind: &K, hand: Hand, class: Option<u8>) -> u32
+    ensures { result ≡ playable_of (K.Kind.meaning kind.now) (holding hand.entry.seat hand.entry.piles.now) class }
 {
     let mut bits = 0;
     for card in Card::deck() {
-        if is_playable(kind, piles, seat, class, card) {
+        if is_playable(kind, hand, class, card) {
             bits |= 1 << u8::from(card);
         }
     }
@@ -58,6 +52,10 @@ pub fn permitted<K: Kind>(deal: &Deal, kind: &K, seat: u8) -> u32
     if !is_to_play(&deal.common, seat) {
         return 0;
     }
-    let class = class_to_serve(kind, &deal.piles, seat, deal.common.board.trick);
-    playable(kind, &deal.piles, seat, class)
+    let hand = Hand {
+        piles: &deal.piles,
+        seat,
+    };
+    let class = hand.class_to_serve(kind, deal.common.board.trick);
+    playable(kind, hand, class)
 }

@@ -8,7 +8,7 @@ use Rattle.views.proofs.permitted.playable.Goals.{then-is_playable, else-is_play
 
 pub loop-card-preserved : goal.loop-card-preserved
 loop-card-preserved g c =
-    let test = is_playable (g.K.Kind.meaning c.args.kind.now) (holding c.args.seat c.args.piles.now) c.args.class in
+    let test = is_playable (g.K.Kind.meaning c.args.kind.now) (holding c.args.hand.seat c.args.hand.piles.now) c.args.class in
     let n = c.loop-card.card-index in
     let bits = c.loop-card.bits in
     let at = placed c.deck-card-items.result n _ c.deck-card-items.ensures c.loop-card-test.true in
@@ -23,4 +23,4 @@ loop-card-preserved g c =
 
 pub returns : goal.returns
 returns g c =
-    gathered_all (g.K.Kind.meaning c.args.kind.now) (holding c.args.seat c.args.piles.now) c.args.class c.loop-card.card-index c.loop-card.bits (omega arith) c.loop-card.invariant.0
+    gathered_all (g.K.Kind.meaning c.args.kind.now) (holding c.args.hand.seat c.args.hand.piles.now) c.args.class c.loop-card.card-index c.loop-card.bits (omega arith) c.loop-card.invariant.0

@@ -4,4 +4,4 @@ use Rattle.views.proofs.Permitting.{Gathered}
 use Rattle.views.proofs.permitted.playable.Given as goal
 
 abbrev pub invariant-loop-card : goal.invariant-loop-card
-invariant-loop-card g l = Gathered (is_playable (g.K.Kind.meaning l.kind) (holding l.seat l.piles) l.class) l.card-index l.bits
+invariant-loop-card g l = Gathered (is_playable (g.K.Kind.meaning l.kind) (holding l.hand.seat l.hand.piles.now) l.class) l.card-index l.bits
