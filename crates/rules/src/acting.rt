@@ -52,7 +52,8 @@ impl Deal {
         self.common = self.common.announces(seat, game, level);
     }
 
-    // Moves the deal by a call that is refused for nothing.
+    // Moves the deal by a call that is refused for nothing. `Few` is asked, and is no ghost field: the
+    // record of a deal is plain, and the law builds it field by field, so each would carry a proof.
     #[tactic(auto, unfolding(crate::specs::Steps::next, crate::specs::Steps::moved))]
     fn apply<K: Kind>(&mut self, kind: &K, seat: Seat, act: Act)
         requires row { in_row self.old.common.moment (call_of act) ≡ true }
@@ -76,7 +77,8 @@ impl Deal {
         }
     }
 
-    // Answers an acting call by the seat of a number: a refusal leaves the deal as it is.
+    // Answers an acting call by the seat of a number: a refusal leaves the deal as it is. `Few` is
+    // asked and kept here for the same reason as of `apply`.
     pub fn act<K: Kind>(&mut self, kind: &K, seat: u8, call: Call) -> Result<(), Refusal>
         requires few { Few self.old }
         ensures answer { result ≡ answered (refusal_by (K.Kind.meaning kind.now) self.old (seat_at seat) call) tt }

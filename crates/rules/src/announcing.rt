@@ -61,7 +61,8 @@ impl Common {
         self.waits(Moment::Playing, Seat::Forehand, contract)
     }
 
-    // The game and the level of these numbers, if they can be announced.
+    // The game and the level of these numbers, if they can be announced. The numbers are what the
+    // seat named; from here on they are a game and a level.
     pub(super) fn admit_announce(self, game: u8, level: u8) -> Result<Act, Refusal>
         ensures { (m : Meaning) (own : List Bool) → AdmitsOwn m self own (Announce game level) result }
     {
@@ -79,7 +80,8 @@ impl Common {
     }
 }
 
-// The first twelve cards that a seat holds or that lie in the skat, rising.
+// The first twelve cards that a seat holds or that lie in the skat, rising: twelve cards by value,
+// as the rules ask.
 pub(super) fn twelve_cards(piles: &[Pile; 32], seat: Seat) -> [Card; 12]
     ensures { result ≡ twelve_of seat piles.now }
 {

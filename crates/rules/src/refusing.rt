@@ -17,7 +17,8 @@ use kinds::kind::Kind;
 use worth::bids::Bid;
 
 impl Common {
-    // The bid of this value, if it can be made.
+    // The bid of this value, if it can be made. The value is what the seat named; from here on it
+    // is a bid.
     fn admit_bid(self, value: u16) -> Result<Act, Refusal>
         ensures { (m : Meaning) (own : List Bool) → AdmitsOwn m self own (Call.Bid value) result }
     {
@@ -30,7 +31,8 @@ impl Common {
 }
 
 impl Deal {
-    // The cards of these numbers, if a seat can put them.
+    // The cards of these numbers, if a seat can put them. The numbers are what the seat named; from
+    // here on they are cards.
     fn admit_put(&self, seat: Seat, a: u8, b: u8) -> Result<Act, Refusal>
         ensures { (m : Meaning) → AdmitsOwn m self.now.common (holding seat self.now.piles) (Put a b) result }
     {
@@ -49,7 +51,8 @@ impl Deal {
         Ok(Act::Put(a, b))
     }
 
-    // The card of this number, if a seat can play it.
+    // The card of this number, if a seat can play it. The number is what the seat named; from here
+    // on it is a card.
     fn admit_play<K: Kind>(&self, kind: &K, seat: Seat, card: u8) -> Result<Act, Refusal>
         ensures { AdmitsOwn (K.Kind.meaning kind.now) self.now.common (holding seat self.now.piles) (Play card) result }
     {

@@ -10,7 +10,7 @@ use super::piles::Hand;
 use cards::deck::Card;
 use kinds::kind::Kind;
 
-// A class is a number here, as in a kind's meaning: see `Kind`.
+// Classes are numbers here, as they are in a kind's meaning: see `Kind`.
 impl<'a> Hand<'a> {
     // Whether the seat holds a card of a class.
     pub fn holds_class<K: Kind>(self, kind: &K, class: u8) -> bool
@@ -34,7 +34,7 @@ impl<'a> Hand<'a> {
     }
 }
 
-// Whether a card is of the class to serve, if there is one.
+// Whether a card is of the class to serve, if there is one. The class is a number, as above.
 pub fn is_of_class<K: Kind>(kind: &K, class: Option<u8>, card: Card) -> bool
     ensures { result ≡ is_of_class (K.Kind.meaning kind.now) class (card_number card) }
 {

@@ -5,7 +5,7 @@ ghost use Rattle.rules.specs.Piles.{holding, skat_of, marked, padded};
 use cards::seats::Seat;
 use rules::deals::Pile;
 
-// What a byte holds that names no card and no seat.
+// What a byte holds that names no card and no seat. It is no `None`: the format of a sight has 255.
 pub const NONE: u8 = 255;
 
 // The cards that a seat holds, as a mark for each card. Tried with a `Hand`: the proof does not

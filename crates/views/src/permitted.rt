@@ -22,7 +22,8 @@ fn is_to_play(common: &Common, seat: Seat) -> bool
     common.moment == Moment::Playing && seat == common.turn
 }
 
-// Whether a seat holds a card, and the card is of the class to serve.
+// Whether a seat holds a card, and the card is of the class to serve. Classes are numbers here, as
+// they are in a kind's meaning: see `Kind`.
 fn is_playable<K: Kind>(kind: &K, hand: Hand, class: Option<u8>, card: Card) -> bool
     ensures { result ≡ is_playable (K.Kind.meaning kind.now) (holding hand.entry.seat hand.entry.piles.now) class (card_number card) }
 {
@@ -42,7 +43,8 @@ fn playable<K: Kind>(kind: &K, hand: Hand, class: Option<u8>) -> u32
     bits
 }
 
-// The cards that a seat may play, as bits by the cards' numbers.
+// The cards that a seat may play, as bits by the cards' numbers. The seat is a number, for any
+// number may ask, and is answered.
 pub fn permitted<K: Kind>(deal: &Deal, kind: &K, seat: u8) -> u32
     ensures { result ≡ permitted_by (K.Kind.meaning kind.now) deal.now (seat_at seat) }
 {

@@ -152,7 +152,8 @@ fn seen(deal: &Deal, seat: Seat) -> [u8; SIGHT_LENGTH]
     bytes
 }
 
-// The seat of a number, for a sight into a buffer of some length.
+// The seat of a number, for a sight into a buffer of some length. The seat is a number in these
+// three, for any number may ask, and is answered.
 fn viewer(seat: u8, room: usize) -> Result<Seat, Refusal>
     ensures { result ≡ viewer_of (seat_at seat) room }
 {
