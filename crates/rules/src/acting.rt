@@ -52,8 +52,8 @@ impl Deal {
         self.common = self.common.announces(seat, game, level);
     }
 
-    // Moves the deal by a call that is refused for nothing. `Few` is asked, and is no ghost field: the
-    // record of a deal is plain, and the law builds it field by field, so each would carry a proof.
+    // Moves the deal by a call that is refused for nothing. `Few` is no ghost field: the record of a
+    // deal is plain, and the law builds it field by field, so that each would carry a proof.
     #[tactic(auto, unfolding(crate::specs::Steps::next, crate::specs::Steps::moved))]
     fn apply<K: Kind>(&mut self, kind: &K, seat: Seat, act: Act)
         requires row { in_row self.old.common.moment (call_of act) ≡ true }
