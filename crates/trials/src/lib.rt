@@ -12,3 +12,5 @@ mod lists;
 mod packs;
 #[cfg(test)]
 mod standings;
+#[cfg(test)]
+mod tables;
