@@ -77,7 +77,8 @@ impl Deal {
         }
     }
 
-    // Answers an acting call by the seat of a number: a refusal leaves the deal as it is. `Few` is
+    // Answers an acting call by the seat of a number, for any number may call: a refusal leaves the
+    // deal as it is. `Few` is
     // asked and kept here for the same reason as of `apply`.
     pub fn act<K: Kind>(&mut self, kind: &K, seat: u8, call: Call) -> Result<(), Refusal>
         requires few { Few self.old }

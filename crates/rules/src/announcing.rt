@@ -22,7 +22,7 @@ const LOWEST: Card = Card {
     place: Place::Seven,
 };
 
-// Whether a game is null, by its case alone.
+// Whether a game is null: one pattern and no equality, since the game inside is not read.
 fn is_null(game: Game) -> bool
     ensures { result ≡ (game_number game == 5) }
 {
@@ -81,7 +81,7 @@ impl Common {
 }
 
 // The first twelve cards that a seat holds or that lie in the skat, rising: twelve cards by value,
-// as the rules ask.
+// as the rules ask. A `Hand` would be taken apart at once.
 pub(super) fn twelve_cards(piles: &[Pile; 32], seat: Seat) -> [Card; 12]
     ensures { result ≡ twelve_of seat piles.now }
 {

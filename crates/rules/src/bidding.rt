@@ -80,7 +80,7 @@ impl Common {
         }
     }
 
-    // A seat has won the auction at this bid.
+    // A seat has won the auction at this bid, a number as in `Common`.
     pub(super) fn declares(self, seat: Seat, value: u16) -> Common
         ensures { result ≡ declares_at self seat value }
     {

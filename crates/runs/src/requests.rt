@@ -3,8 +3,9 @@ use cards::refusals::Refusal;
 use cards::units::GamePoints;
 use rules::calls::Call;
 
-// One of the ten calls, by the number of a seat: an acting call, a sight into a buffer of some
-// length, the permitted cards, or the result, which no seat asks for.
+// One of the ten calls, by the number of a seat, since any number may ask and is answered: an acting
+// call, a sight into a buffer of some length, the permitted cards, or the result, which no seat asks
+// for.
 #[derive(Clone, Copy, Debug, PartialEq, Eq, Drop)]
 pub enum Request {
     Act(u8, Call),

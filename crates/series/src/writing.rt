@@ -80,8 +80,8 @@ impl Sheet {
         ]
     }
 
-    // Writes the rows' bytes into the front of the buffer. They go in by index, since nothing is
-    // known of what a slice holds after a loop over its chunks.
+    // Writes the rows' bytes into the front of the buffer. Tried over its chunks: nothing is
+    // known of what a slice holds after such a loop, so the proof does not close.
     fn write_rows(&self, buffer: &mut [u8])
         requires { 4 * length self.now.rows.items ≤ length buffer.old }
         ensures { buffer.new ≡ flat_map row_bytes self.now.rows.items ++ drop (4 * length self.now.rows.items) buffer.old }

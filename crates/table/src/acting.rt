@@ -1,5 +1,6 @@
 // Setting a table, and the seven acting calls. Each takes the kind of game that is played, since
-// the law of runs is about one kind; before the announcement no call reads it.
+// the law of runs is about one kind; before the announcement no call reads it. Seats, cards, games and
+// levels are numbers here, since any number can be named and is refused in its turn.
 ghost use Rattle.std.specs.Prelude.{◌≡◌, []};
 ghost use Rattle.kinds.specs.Meanings.{Meaning};
 ghost use Rattle.rules.specs.declared.calls.Call.TheVariants.{Bid, Hold, Pass, Take, Put, Announce, Play};

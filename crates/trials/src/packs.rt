@@ -20,6 +20,7 @@ fn the_club_jack_is_the_last_card(rt: HostRuntime) {
 #[test]
 fn the_eyes_of_a_pack_make_120(rt: HostRuntime) -> Result<(), Fail> {
     let mut eyes = 0u16;
+    // A range of numbers, which is what is tested; nothing is indexed.
     for number in 0..32u8 {
         let card = Card::try_from(number).ok().ok_or("no card")?;
         eyes = eyes.saturating_add(u16::from(card.eyes().0));

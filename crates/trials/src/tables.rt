@@ -1,4 +1,4 @@
-// A table: whole deals by its calls, what it refuses, what it shows, and runs.
+// A table: short deals by its calls, what it refuses, what it shows, and runs.
 use cards::packs::{CutPack, UncutPack};
 use cards::refusals::Refusal;
 use cards::units::GamePoints;
@@ -126,7 +126,10 @@ fn a_seat_sees_its_ten_cards_and_no_others(rt: HostRuntime) -> Result<(), Fail> 
 fn who_can_serve_must(rt: HostRuntime) -> Result<(), Fail> {
     let mut table = null_by_hand()?;
     assert_eq!(rt; table.permitted(&Null, 1), 0);
-    assert_eq!(rt; table.permitted(&Null, 0), 0b11_1000_0000_0111_1000_0000_0111);
+    assert_eq!(rt;
+        table.permitted(&Null, 0),
+        0b11_1000_0000_0111_1000_0000_0111
+    );
     assert_eq!(rt; number(table.play(&Null, 0, 0)), 0);
     assert_eq!(rt; table.permitted(&Null, 1), 0b11_1000);
     assert_eq!(rt; table.permitted(&Null, 3), 0);

@@ -30,8 +30,9 @@ pub fn count_marked(marks: &[bool; 32]) -> u8
     marks.iter().filter(|mark| **mark).count() as u8
 }
 
-// The numbers of the first N marked cards, rising, and no card behind them. The loop counts: the
-// check finds no proof of one over a chain in a function with a const parameter.
+// The numbers of the first N marked cards, rising, and no card behind them. Tried with
+// `array::from_fn` and with `take(N).enumerate()`: in a function with a const parameter the proof does
+// not close.
 pub fn listed<const N: usize>(marks: &[bool; 32]) -> [u8; N]
     ensures { result ≡ padded N 255 (marked marks.now) }
 {
