@@ -74,3 +74,11 @@ is_first ahead (x ∷ items) i b le best = (
   (λ k d l. best.none k d (omega arith)),
   (λ k l none. both_ways _ (none b x best.within) (best.early k x l)),
 )
+
+-- the best of one item is that item
+pub best_one : {A : Type 0} (ahead : A → A → Bool) → ((a : A) → ahead a a ≡ false) → (items : List A) → 0 < length items → Best ahead items 1 0
+best_one ahead irreflexive items some = record {
+  within = some;
+  none = λ k d lt. let z : k ≡ 0 = omega arith in ap (λ j. ahead (get_or items j d) (get_or items 0 d)) z ∙ irreflexive (get_or items 0 d);
+  early = λ k d lt. absurd (omega arith);
+}

@@ -6,7 +6,6 @@ ghost use Rattle.cards.specs.Deck.{suit_number, place_number, card_number, card_
 
 use super::refusals::Refusal;
 use super::units::Eyes;
-use std::array;
 
 // The suits from the lowest to the highest.
 #[derive(Clone, Copy, Debug, PartialEq, Eq, Drop)]
@@ -37,38 +36,58 @@ pub struct Card {
     pub place: Place,
 }
 
-// The suits in the order of their numbers.
-const SUITS: [Suit; 4] = [Suit::Diamonds, Suit::Hearts, Suit::Spades, Suit::Clubs];
-
-// The places in the order of their numbers.
-const PLACES: [Place; 8] = [
-    Place::Seven,
-    Place::Eight,
-    Place::Nine,
-    Place::Queen,
-    Place::King,
-    Place::Ten,
-    Place::Ace,
-    Place::Jack,
-];
-
-// The card of a number.
-fn card_at(number: usize) -> Card
-    requires { number < 32 }
-    ensures { result ≡ card_at number }
-{
-    Card {
-        suit: SUITS[number / 8],
-        place: PLACES[number % 8],
-    }
+// The card of a suit and a place, so that the table below has one card a line.
+macro_rules! card {
+    ($suit:ident, $place:ident) => {
+        Card {
+            suit: Suit::$suit,
+            place: Place::$place,
+        }
+    };
 }
+
+// All cards in the order of their numbers.
+const DECK: [Card; 32] = [
+    card!(Diamonds, Seven),
+    card!(Diamonds, Eight),
+    card!(Diamonds, Nine),
+    card!(Diamonds, Queen),
+    card!(Diamonds, King),
+    card!(Diamonds, Ten),
+    card!(Diamonds, Ace),
+    card!(Diamonds, Jack),
+    card!(Hearts, Seven),
+    card!(Hearts, Eight),
+    card!(Hearts, Nine),
+    card!(Hearts, Queen),
+    card!(Hearts, King),
+    card!(Hearts, Ten),
+    card!(Hearts, Ace),
+    card!(Hearts, Jack),
+    card!(Spades, Seven),
+    card!(Spades, Eight),
+    card!(Spades, Nine),
+    card!(Spades, Queen),
+    card!(Spades, King),
+    card!(Spades, Ten),
+    card!(Spades, Ace),
+    card!(Spades, Jack),
+    card!(Clubs, Seven),
+    card!(Clubs, Eight),
+    card!(Clubs, Nine),
+    card!(Clubs, Queen),
+    card!(Clubs, King),
+    card!(Clubs, Ten),
+    card!(Clubs, Ace),
+    card!(Clubs, Jack),
+];
 
 impl Card {
     // All cards in the order of their numbers.
     pub fn deck() -> [Card; 32]
         ensures { result ≡ map card_at (range_with_len 0 32) }
     {
-        array::from_fn(card_at)
+        DECK
     }
 
     // What the card counts in a trick.
@@ -104,10 +123,13 @@ impl TryFrom<u8> for Suit {
 
     // The suit of this number, if there is one.
     fn try_from(number: u8) -> Result<Suit, Refusal> {
-        SUITS
-            .get(usize::from(number))
-            .copied()
-            .ok_or(Refusal::NoSuchCard)
+        match number {
+            0 => Ok(Suit::Diamonds),
+            1 => Ok(Suit::Hearts),
+            2 => Ok(Suit::Spades),
+            3 => Ok(Suit::Clubs),
+            _ => Err(Refusal::NoSuchCard),
+        }
     }
 }
 
@@ -127,10 +149,17 @@ impl TryFrom<u8> for Place {
 
     // The place of this number, if there is one.
     fn try_from(number: u8) -> Result<Place, Refusal> {
-        PLACES
-            .get(usize::from(number))
-            .copied()
-            .ok_or(Refusal::NoSuchCard)
+        match number {
+            0 => Ok(Place::Seven),
+            1 => Ok(Place::Eight),
+            2 => Ok(Place::Nine),
+            3 => Ok(Place::Queen),
+            4 => Ok(Place::King),
+            5 => Ok(Place::Ten),
+            6 => Ok(Place::Ace),
+            7 => Ok(Place::Jack),
+            _ => Err(Refusal::NoSuchCard),
+        }
     }
 }
 

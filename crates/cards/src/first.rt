@@ -12,8 +12,8 @@ pub fn first<O: Order>(order: &O, items: &[O::Item]) -> Option<usize>
         return None;
     }
     let mut best = 0;
-    for (i, item) in items.iter().enumerate() {
-        if order.ahead(item, &items[best]) {
+    for i in 1..items.len() {
+        if order.ahead(&items[i], &items[best]) {
             best = i;
         }
     }

@@ -1,13 +1,9 @@
 -- The front of a run on which a test holds, and a card among others, for `tops` and `is_among`.
-use Rattle.std.proofs.Common.{◌≡◌, ℕ, zero, suc, ◌+◌, ◌<◌, ◌≤◌, Bool, true, false, cond, ◌&&◌, eqb, List, [], ◌∷◌, length, get_or, sym, refl, ap, ◌∙◌, arith, below_more}
-use denote.Enum.Bare.{sameb}
+use Rattle.std.proofs.Common.{◌≡◌, ℕ, zero, suc, ◌+◌, ◌<◌, ◌≤◌, Bool, true, false, cond, eqb, List, [], ◌∷◌, length, get_or, sym, refl, ap, ◌∙◌, arith, below_more}
 use Rattle.std.specs.List.{prefix_len, list_any}
 use Rattle.std.proofs.lemmas.Bool.Decides.{nat_tests}
-use Rattle.cards.specs.contracts.deck.Suit.{the_type as suit_type}
-use Rattle.cards.specs.contracts.deck.Place.{the_type as place_type}
 use Rattle.cards.specs.declared.deck.Card.{Card}
 use Rattle.cards.specs.Deck.{card_number}
-use Rattle.cards.proofs.Equality.{same_numbers}
 use Rattle.worth.specs.Tops.{is_among, is_same, is_alike, tops_of}
 
 leading_at : {A : Type 0} (test : A → Bool) (xs : List A) (n : ℕ) → n ≤ length xs → ((k : ℕ) (d : A) → k < n → test (get_or xs k d) ≡ true) → (n < length xs → (d : A) → test (get_or xs n d) ≡ false) → prefix_len test xs ≡ n
@@ -47,11 +43,10 @@ module _ (run cards : List Card) (first : Card) (n : ℕ) (some : 0 < length run
       ∙ leading_at (is_alike cards first) run n le (λ k d h. same_true _ _ (sym (alike k d h)))
       (λ h d. ap (is_alike cards first) (here d) ∙ same_false _ _ differ))
 
--- a card is among others, as `==` tells it
-pub among_same : (cards : List Card) (card : Card) → list_any (λ other. sameb suit_type other.suit card.suit && sameb place_type other.place card.place) cards ≡ is_among cards card
+-- a card is among others, as their numbers tell it
+pub among_same : (cards : List Card) (card : Card) → list_any (λ other. eqb (card_number other) (card_number card)) cards ≡ is_among cards card
 among_same [] card = refl
 among_same (other ∷ cards) card =
-    let here = same_numbers other card in
     let turned : eqb (card_number other) (card_number card) ≡ eqb (card_number card) (card_number other) = grind (arith, nat_tests) in
     let more = among_same cards card in
     cc

@@ -12,7 +12,8 @@ use cards::units::GamePoints;
 fn is_among(cards: &[Card; 12], card: Card) -> bool
     ensures { result ≡ is_among cards.now card }
 {
-    cards.contains(&card)
+    let number = u8::from(card);
+    cards.iter().any(|other| u8::from(*other) == number)
 }
 
 // How many trumps from the club jack down are all among these cards, or all missing: the game

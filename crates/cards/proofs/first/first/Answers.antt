@@ -1,8 +1,14 @@
-use Rattle.std.proofs.Common.{◌≡◌, cond}
+use Rattle.std.proofs.Common.{◌≡◌, cond, sym, ◌∙◌, arith}
+use Rattle.std.proofs.lemmas.Bool.{eqb-false}
 use Rattle.std.proofs.lemmas.List.{get_or_default}
-use Rattle.cards.proofs.Scan.{best_more, is_first}
+use Rattle.cards.proofs.Scan.{best_one, best_more, is_first}
 use Rattle.cards.proofs.first.first.Goals as goal
 use Rattle.cards.proofs.first.first.Goals.{then-ahead, else-ahead}
+
+pub loop-i-init : goal.loop-i-init
+loop-i-init g c =
+    let some = eqb-false _ _ (sym c.is_empty.ensures ∙ c.if-is_empty.false) in
+    best_one (g.O.Order.ahead c.args.order.now) (g.met.O.Order.irreflexive c.args.order.now) c.args.items.now (omega arith)
 
 pub loop-i-preserved : goal.loop-i-preserved
 loop-i-preserved g c =
