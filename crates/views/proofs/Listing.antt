@@ -1,31 +1,8 @@
 -- Marks of cards, and their listing by number, for the functions on hands.
-use Rattle.std.proofs.Common.{◌≡◌, ℕ, zero, suc, ◌+◌, ◌<◌, ◌≤◌, inl, inr, min, Bool, true, false, cond, List, [], ◌∷◌, ◌++◌, map, length, get_or, take, set, replicate, sym, refl, ap, ◌∙◌, add-zero, subst, arith}
-use Rattle.std.proofs.lemmas.List.{append_assoc, append-nil, ext_get_or, get_or-map, length-append, length-map, length_push, length-take-le, take-append-le, take_all, take_more, take-replicate}
-use Rattle.std.proofs.Math.Nat.{eq-or-lt_of_le}
-use Rattle.std.specs.Array.{IsFromFnResultFrom, IsFromFnResult}
-use Rattle.std.specs.Fn.{Called}
-use denote.Param.Members.{Mut}
+use Rattle.std.proofs.Common.{◌≡◌, ℕ, zero, suc, ◌+◌, ◌<◌, ◌≤◌, min, Bool, true, false, cond, List, [], ◌∷◌, ◌++◌, length, get_or, take, set, replicate, sym, refl, ap, ◌∙◌, add-zero, arith}
+use Rattle.std.proofs.lemmas.List.{append_assoc, append-nil, length-append, length_push, length-take-le, take-append-le, take_all, take_more, take-replicate}
 use mir.Val.{bool_byte}
-use Rattle.rules.specs.declared.deals.Pile.{Pile}
 use Rattle.rules.specs.Piles.{marked, marked_from, padded}
-
--- what `array::from_fn` gives of 32 piles, where the closure is the same after each call
-module _ {F : Type 0} (g : Mut F (ℕ × Unit {0}) Bool) (says : Pile → Bool) (piles : List Pile) (pile : Pile) (f : F) (step : (i : ℕ) (mark : Bool) (q : F) → Called g f (i, tt) mark q → (q ≡ f) × (mark ≡ says (get_or piles i pile))) (marks : List Bool) where
-  mark_at : (p : F) (i n : ℕ) → p ≡ f → IsFromFnResultFrom g p marks i n → (k : ℕ) → i ≤ k → k < i + n → get_or marks k false ≡ says (get_or piles k pile)
-  mark_at p i zero same calls k from below = absurd (omega arith)
-  mark_at p i (suc n) same calls k from below =
-      let told = step i calls.1 calls.0 (subst (λ s. Called g s (i, tt) calls.1 calls.0) same calls.3) in
-      elim (eq-or-lt_of_le from) [
-        | inl here ↦ ap (λ j. get_or marks j false) (sym here) ∙ (calls.2.1 false ∙ (told.1 ∙ ap (λ j. says (get_or piles j pile)) here))
-        | inr later ↦ mark_at calls.0 (i + 1) n told.0 calls.4 k (omega arith) (omega arith)
-      ]
-
-  pub marks_all : length piles ≡ 32 → IsFromFnResult g f marks 32 → marks ≡ map says piles
-  marks_all long calls =
-      ext_get_or false marks (map says piles) (calls.long ∙ sym (length-map piles says ∙ long))
-      (λ k h.
-      let short : k < 32 = omega (arith, calls.long) in
-      mark_at f 0 32 refl calls.each k (omega arith) (omega arith) ∙ sym (get_or-map says piles k pile false (omega arith)))
 
 -- one more mark behind others
 marked_push : (n : ℕ) (marks : List Bool) (mark : Bool) → marked_from n (marks ++ mark ∷ []) ≡ marked_from n marks ++ cond mark ((n + length marks) ∷ []) []

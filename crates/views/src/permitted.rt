@@ -34,10 +34,11 @@ fn is_playable<K: Kind>(kind: &K, hand: Hand, class: Option<u8>, card: Card) -> 
 fn playable<K: Kind>(kind: &K, hand: Hand, class: Option<u8>) -> u32
     ensures { result ≡ playable_of (K.Kind.meaning kind.now) (holding hand.entry.seat hand.entry.piles.now) class }
 {
+    let deck = Card::deck();
     let mut bits = 0;
-    for card in Card::deck() {
-        if is_playable(kind, hand, class, card) {
-            bits |= 1 << u8::from(card);
+    for (number, card) in deck.iter().enumerate() {
+        if is_playable(kind, hand, class, *card) {
+            bits |= 1 << number;
         }
     }
     bits

@@ -1,9 +1,9 @@
-use Rattle.std.proofs.Common.{rules}
+use Rattle.std.proofs.Common.{false, rules}
 use Rattle.cards.specs.declared.seats.Seat.TheVariants.{Forehand}
 use Rattle.rules.specs.declared.deals.Pile.TheVariants.{InHand}
 use Rattle.rules.specs.Piles.{is_in_skat}
-use Rattle.views.proofs.Listing.{marks_all}
+use Rattle.rules.proofs.Mapping.{mapped}
 use Rattle.views.proofs.hands.skat_marks.Goals as goal
 
 pub returns : goal.returns
-returns c = marks_all _ is_in_skat c.args.piles.now (InHand Forehand) _ (λ i mark q called. (search rules, search rules)) c.from_fn.result c.told-piles c.from_fn.ensures.items
+returns c = mapped _ is_in_skat c.args.piles.now (InHand Forehand) _ (λ i mark q called. (search rules, search rules)) c.from_fn.result 32 false c.told-piles c.from_fn.ensures.items
