@@ -29,7 +29,9 @@ impl Deal {
     fn take(&mut self, seat: Seat)
         ensures { (m : Meaning) → self.new ≡ step m self.old seat Take }
     {
-        self.piles = self.piles.map(|pile| pile.lifted(seat));
+        for pile in self.piles.iter_mut() {
+            *pile = pile.lifted(seat);
+        }
         self.common = self.common.takes_skat(seat, Moment::Putting);
     }
 

@@ -7,6 +7,7 @@ use super::moments::Moment;
 use cards::dealing::Dealt;
 use cards::packs::CutPack;
 use cards::seats::Seat;
+use std::array;
 
 impl Common {
     // Middlehand first bids to forehand.
@@ -41,9 +42,10 @@ impl Deal {
     pub fn set(pack: CutPack) -> Deal
         ensures { result ≡ start pack.cards }
     {
+        let dealt = pack.deal();
         Deal {
             common: Common::opening(),
-            piles: pack.deal().map(Pile::from),
+            piles: array::from_fn(|i| Pile::from(dealt[i])),
             twelve: None,
         }
     }

@@ -111,7 +111,9 @@ impl Deal {
             Trick::Two(a, b) => {
                 let taker = taking_seat(kind, leader, a, b, card);
                 let by_declarer = common.contract.is_declarer(taker);
-                self.piles = self.piles.map(|pile| pile.gathered(by_declarer));
+                for pile in self.piles.iter_mut() {
+                    *pile = pile.gathered(by_declarer);
+                }
                 self.common = common.fills(kind, taker, a, b, card);
             }
         }

@@ -1,17 +1,8 @@
 -- Marks of cards, and their listing by number, for the functions on hands.
-use Rattle.std.proofs.Common.{◌≡◌, ℕ, zero, suc, ◌+◌, ◌<◌, ◌≤◌, min, Bool, true, false, cond, List, [], ◌∷◌, ◌++◌, length, get_or, take, set, replicate, sym, refl, ap, ◌∙◌, count_by, filter, add-zero, arith}
-use Rattle.std.proofs.lemmas.List.{append_assoc, append-nil, length-append, length-take-le, take-append-le, take_more, take-replicate}
-use Rattle.std.proofs.lemmas.List.Sums.{length-filter}
+use Rattle.std.proofs.Common.{◌≡◌, ℕ, zero, suc, ◌+◌, ◌<◌, ◌≤◌, min, Bool, true, false, cond, List, [], ◌∷◌, ◌++◌, length, get_or, take, set, replicate, sym, refl, ap, ◌∙◌, add-zero, arith}
+use Rattle.std.proofs.lemmas.List.{append_assoc, append-nil, length-append, length_push, length-take-le, take-append-le, take_all, take_more, take-replicate}
+use mir.Val.{bool_byte}
 use Rattle.rules.specs.Piles.{marked, marked_from, padded}
-
--- as many cards are listed as are marked
-marked_length : (n : ℕ) (marks : List Bool) → length (marked_from n marks) ≡ length (filter (λ mark. mark) marks)
-marked_length n [] = refl
-marked_length n (true ∷ marks) = ap suc (marked_length (suc n) marks)
-marked_length n (false ∷ marks) = marked_length (suc n) marks
-
-pub marked_count : (marks : List Bool) → count_by (λ mark. mark) marks ≡ length (marked marks)
-marked_count marks = sym (marked_length 0 marks ∙ length-filter (λ mark. mark) marks)
 
 -- one more mark behind others
 marked_push : (n : ℕ) (marks : List Bool) (mark : Bool) → marked_from n (marks ++ mark ∷ []) ≡ marked_from n marks ++ cond mark ((n + length marks) ∷ []) []
@@ -33,11 +24,25 @@ module _ (marks : List Bool) (i : ℕ) (within : i < length marks) where
       ∙ (ap (λ k. marked (take i marks) ++ cond (get_or marks i false) (k ∷ []) []) at
       ∙ ap (λ b. marked (take i marks) ++ cond b (i ∷ []) []) is))
 
-  marked_yes : get_or marks i false ≡ true → marked (take (i + 1) marks) ≡ marked (take i marks) ++ i ∷ []
+  pub marked_yes : get_or marks i false ≡ true → marked (take (i + 1) marks) ≡ marked (take i marks) ++ i ∷ []
   marked_yes is = more true is
 
-  marked_no : get_or marks i false ≡ false → marked (take (i + 1) marks) ≡ marked (take i marks)
+  pub marked_no : get_or marks i false ≡ false → marked (take (i + 1) marks) ≡ marked (take i marks)
   marked_no is = more false is ∙ append-nil (marked (take i marks))
+
+-- one mark further on there is one more number or none
+pub marked_more : (marks : List Bool) (i : ℕ) → length marks ≡ 32 → i < 32 → (length (marked (take (i + 1) marks)) ≡ length (marked (take i marks)) + bool_byte (get_or marks i false)) × (bool_byte (get_or marks i false) ≤ 1)
+marked_more marks i long within = split (get_or marks i false) refl
+  where
+    before : List ℕ
+    before = marked (take i marks)
+
+    split : (mark : Bool) → get_or marks i false ≡ mark → (length (marked (take (i + 1) marks)) ≡ length before + bool_byte mark) × (bool_byte mark ≤ 1)
+    split true is = (ap length (marked_yes marks i (omega (arith, long)) is) ∙ (length_push before i ∙ omega arith), omega arith)
+    split false is = (ap length (marked_no marks i (omega (arith, long)) is) ∙ omega arith, omega arith)
+
+pub marked_all : (marks : List Bool) (i : ℕ) → length marks ≤ i → marked (take i marks) ≡ marked marks
+marked_all marks i end = ap marked (take_all i marks end)
 
 -- one more number is listed where there is room, and left out where there is none
 pad_room : (filler : ℕ) (xs : List ℕ) (n m x : ℕ) → n ≤ m → length xs < n → take n ((xs ++ x ∷ []) ++ replicate m filler) ≡ set (take n (xs ++ replicate m filler)) (length xs) x

@@ -1,10 +1,11 @@
 -- The cards that may be played, gathered as bits in one pass, for `playable` and `permitted`.
-use Rattle.std.proofs.Common.{◌≡◌, ℕ, zero, suc, ◌+◌, ◌*◌, ◌%◌, ◌^◌, ◌<◌, Bool, true, false, cond, not, ◌&&◌, ◌||◌, eqb, ltb, List, [], ◌∷◌, map, get_or, Some, None, Option, sym, refl, ap, ◌∙◌, add-zero, add_comm, one-mul, add-one, arith}
+use Rattle.std.proofs.Common.{◌≡◌, ℕ, zero, suc, ◌+◌, ◌*◌, ◌%◌, ◌^◌, ◌<◌, Bool, true, false, cond, not, ◌&&◌, ◌||◌, eqb, ltb, List, [], ◌∷◌, map, length, get_or, Some, None, Option, sym, refl, ap, ◌∙◌, add-zero, add_comm, one-mul, add-one, arith}
 use mathlib.Core.Bool.{or-true, or-false}
 use native.Mathlib.Nat.{pow-succ'}
 use lib.Bits.{bit_or}
 use Rattle.std.proofs.lemmas.Nat.{one_shl, or_comm, or_shifted}
 use Rattle.std.specs.List.{range_with_len}
+use Rattle.std.proofs.lemmas.List.{get_or-map}
 use Rattle.std.proofs.lemmas.List.FromFn.{get_or-map-range_with_len}
 use Rattle.std.proofs.lemmas.Bool.{le-ltb}
 use Rattle.cards.specs.declared.deck.Card.{Card}
@@ -18,6 +19,7 @@ use Rattle.cards.proofs.Cardinals.{number_at}
 use Rattle.kinds.specs.Meanings.{Meaning}
 use Rattle.rules.specs.declared.deals.Common.{Common}
 use Rattle.rules.specs.declared.deals.Deal.{Deal}
+use Rattle.rules.specs.declared.deals.Pile.{Pile}
 use Rattle.rules.specs.declared.deals.Trick.{Trick}
 use Rattle.rules.specs.declared.deals.Trick.TheVariants.{Empty, One, Two, Full}
 use Rattle.rules.specs.declared.moments.Moment.{Moment}
@@ -25,7 +27,7 @@ use Rattle.rules.specs.declared.moments.Moment.TheVariants.{Bidding, Hearing, Al
 use Rattle.rules.specs.Board.{any_of_class, follows}
 use Rattle.rules.specs.Moments.{is_at}
 use Rattle.rules.specs.Permitted.{bits_below, may_play, permitted_by, permitted_of}
-use Rattle.rules.specs.Piles.{holding, is_seat, marked}
+use Rattle.rules.specs.Piles.{holding, is_held, is_seat, marked}
 use Rattle.rules.specs.Refusing.{is_none, refusal_of}
 use Rattle.rules.specs.Serving.{class_to_serve, is_of_class}
 use Rattle.views.specs.Permitted.{is_playable, playable_of}
@@ -62,6 +64,11 @@ module _ (test : ℕ → Bool) (n bits : ℕ) (sofar : Gathered test n bits) whe
 pub placed : (cards : List Card) (n : ℕ) (d : Card) → cards ≡ map card_at (range_with_len 0 32) → n < 32 → card_number (get_or cards n d) ≡ n
 placed cards n d all low =
     ap (λ cs. card_number (get_or cs n d)) all ∙ (ap card_number (get_or-map-range_with_len card_at 0 32 n n d low (omega arith)) ∙ number_at n low)
+
+-- whether a card is playable, told from its pile and its class
+pub played_from : (m : Meaning) (seat : Seat) (piles : List Pile) (class : Option ℕ) (n : ℕ) (pile : Pile) → length piles ≡ 32 → n < 32 → (held follows : Bool) → held ≡ is_held seat (get_or piles n pile) → (held && follows) ≡ (held && is_of_class m class n) → (held && follows) ≡ is_playable m (holding seat piles) class n
+played_from m seat piles class n pile long low held follows is serves =
+    serves ∙ ap (λ b. b && is_of_class m class n) (is ∙ sym (get_or-map (is_held seat) piles n pile false (omega arith)))
 
 pub gathered_all : (m : Meaning) (hand : List Bool) (asked : Option ℕ) (n bits : ℕ) → n ≡ 32 → bits ≡ bits_below n (is_playable m hand asked) → bits ≡ playable_of m hand asked
 unfolding playable_of

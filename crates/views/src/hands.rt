@@ -4,6 +4,7 @@ ghost use Rattle.rules.specs.Piles.{holding, skat_of, marked, padded};
 
 use cards::seats::Seat;
 use rules::deals::Pile;
+use std::array;
 
 // What a byte holds that names no card and no seat. It is no `None`: the format of a sight has 255.
 pub const NONE: u8 = 255;
@@ -13,21 +14,25 @@ pub const NONE: u8 = 255;
 pub fn held_marks(piles: &[Pile; 32], seat: Seat) -> [bool; 32]
     ensures { result ≡ holding seat piles.now }
 {
-    piles.map(|pile| pile.is_held(seat))
+    array::from_fn(|i| piles[i].is_held(seat))
 }
 
 // The skat or the put cards, as a mark for each card.
 pub fn skat_marks(piles: &[Pile; 32]) -> [bool; 32]
     ensures { result ≡ skat_of piles.now }
 {
-    piles.map(|pile| pile.is_in_skat())
+    array::from_fn(|i| piles[i].is_in_skat())
 }
 
 // How many cards are marked.
 pub fn count_marked(marks: &[bool; 32]) -> u8
     ensures { result ≡ length (marked marks.now) }
 {
-    marks.iter().filter(|mark| **mark).count() as u8
+    let mut count = 0;
+    for mark in marks {
+        count += u8::from(*mark);
+    }
+    count
 }
 
 // The numbers of the first N marked cards, rising, and no card behind them. Tried with

@@ -1,16 +1,15 @@
 // The cards that a seat may play now.
 ghost use Rattle.std.specs.Prelude.{◌≡◌, ◌&&◌};
-ghost use Rattle.cards.specs.Deck.{card_number};
 ghost use Rattle.cards.specs.Seats.{seat_at};
 ghost use Rattle.rules.specs.Moments.{is_at};
 ghost use Rattle.rules.specs.Permitted.{permitted_by};
 ghost use Rattle.rules.specs.Piles.{is_seat, holding};
-ghost use Rattle.views.specs.Permitted.{is_playable, playable_of};
+ghost use Rattle.views.specs.Permitted.{playable_of};
 
 use cards::deck::Card;
 use cards::seats::Seat;
 use kinds::kind::Kind;
-use rules::deals::{Common, Deal};
+use rules::deals::{Common, Deal, Pile};
 use rules::moments::Moment;
 use rules::piles::Hand;
 use rules::serving::is_of_class;
@@ -22,22 +21,17 @@ fn is_to_play(common: &Common, seat: Seat) -> bool
     common.moment == Moment::Playing && seat == common.turn
 }
 
-// Whether a seat holds a card, and the card is of the class to serve. Classes are numbers here, as
-// they are in a kind's meaning: see `Kind`.
-fn is_playable<K: Kind>(kind: &K, hand: Hand, class: Option<u8>, card: Card) -> bool
-    ensures { result ≡ is_playable (K.Kind.meaning kind.now) (holding hand.entry.seat hand.entry.piles.now) class (card_number card) }
+// The cards that a seat holds and that are of the class to serve, as bits. Classes are numbers here,
+// as they are in a kind's meaning: see `Kind`. The piles stand alone: the check does not know that
+// those in a `Hand` are 32.
+fn playable<K: Kind>(kind: &K, piles: &[Pile; 32], seat: Seat, class: Option<u8>) -> u32
+    ensures { result ≡ playable_of (K.Kind.meaning kind.now) (holding seat piles.now) class }
 {
-    hand.holds(card) && is_of_class(kind, class, card)
-}
-
-// The cards that a seat holds and that are of the class to serve, as bits.
-fn playable<K: Kind>(kind: &K, hand: Hand, class: Option<u8>) -> u32
-    ensures { result ≡ playable_of (K.Kind.meaning kind.now) (holding hand.entry.seat hand.entry.piles.now) class }
-{
+    let deck = Card::deck();
     let mut bits = 0;
-    for card in Card::deck() {
-        if is_playable(kind, hand, class, card) {
-            bits |= 1 << u8::from(card);
+    for (number, pile) in piles.iter().enumerate() {
+        if pile.is_held(seat) && is_of_class(kind, class, deck[number]) {
+            bits |= 1 << number;
         }
     }
     bits
@@ -59,5 +53,5 @@ pub fn permitted<K: Kind>(deal: &Deal, kind: &K, seat: u8) -> u32
         seat,
     };
     let class = hand.class_to_serve(kind, deal.common.board.trick);
-    playable(kind, hand, class)
+    playable(kind, &deal.piles, seat, class)
 }

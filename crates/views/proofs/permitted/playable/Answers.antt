@@ -1,26 +1,38 @@
-use Rattle.std.proofs.Common.{◌+◌, ◌*◌, ◌%◌, ◌^◌, sym, ap, ◌∙◌, subst, arith}
-use lib.Bits.{bit_or}
+use Rattle.std.proofs.Common.{◌+◌, false, refl, sym, ap, ◌∙◌, subst, arith}
 use Rattle.rules.specs.Piles.{holding}
+use Rattle.rules.specs.Serving.{is_of_class}
 use Rattle.views.specs.Permitted.{is_playable}
-use Rattle.views.proofs.Permitting.{Gathered, gathered_all, gathered_yes, gathered_no, placed}
+use Rattle.views.proofs.Permitting.{Gathered, gathered_all, gathered_yes, gathered_no, placed, played_from}
 use Rattle.views.proofs.permitted.playable.Goals as goal
-use Rattle.views.proofs.permitted.playable.Goals.{then-is_playable, else-is_playable}
+use Rattle.views.proofs.permitted.playable.Goals.{then-is_held+then-is_of_class, else-is_held, else-is_held-via-then-is_held+else-is_of_class, else-is_held-via-else-is_held}
 
-pub loop-card-preserved : goal.loop-card-preserved
-loop-card-preserved g c =
-    let test = is_playable (g.K.Kind.meaning c.args.kind.now) (holding c.args.hand.seat c.args.hand.piles.now) c.args.class in
-    let n = c.loop-card.card-index in
-    let bits = c.loop-card.bits in
-    let at = placed c.deck-card-items.result n _ c.deck-card-items.ensures c.loop-card-test.true in
-    elim c.if-is_playable.branch [
-      | then-is_playable w ↦
-          subst (Gathered test (n + 1)) (sym (w.bits-is ∙ ap (λ k. bit_or bits (1 * 2 ^ k % 2 ^ 32)) (w.from.ensures ∙ at)))
-          (gathered_yes test n bits c.loop-card.invariant c.loop-card-test.true (sym w.if-is_playable.true ∙ (c.is_playable.ensures ∙ ap test at)))
-      | else-is_playable w ↦
+pub loop-number-preserved : goal.loop-number-preserved
+loop-number-preserved g c =
+    let m = g.K.Kind.meaning c.args.kind.now in
+    let piles = c.args.piles.now in
+    let seat = c.args.seat in
+    let class = c.args.class in
+    let n = c.loop-number.number in
+    let bits = c.loop-number.bits in
+    let test = is_playable m (holding seat piles) class in
+    let at = placed c.deck-deck.result n _ c.deck-deck.ensures c.loop-number-test.true in
+    let played = played_from m seat piles class n _ c.told-piles c.loop-number-test.true in
+    elim c.if-is_held.branch [
+      | then-is_held+then-is_of_class w ↦
+          let follows = sym w.if-is_of_class.true ∙ (w.is_of_class.ensures ∙ ap (is_of_class m class) at) in
           subst (Gathered test (n + 1)) (sym w.bits-is)
-          (gathered_no test n bits c.loop-card.invariant (sym w.if-is_playable.false ∙ (c.is_playable.ensures ∙ ap test at)))
+          (gathered_yes test n bits c.loop-number.invariant c.loop-number-test.true (played _ _ (sym w.if-is_held.true ∙ c.is_held.ensures) follows))
+      | else-is_held w ↦ elim w.else-is_held.branch [
+        | else-is_held-via-then-is_held+else-is_of_class v ↦
+            let follows = sym v.if-is_of_class.false ∙ (v.is_of_class.ensures ∙ ap (is_of_class m class) at) in
+            subst (Gathered test (n + 1)) (sym w.bits-is)
+            (gathered_no test n bits c.loop-number.invariant (played _ _ (sym v.if-is_held.true ∙ c.is_held.ensures) follows))
+        | else-is_held-via-else-is_held v ↦
+            subst (Gathered test (n + 1)) (sym w.bits-is)
+            (gathered_no test n bits c.loop-number.invariant (played false false (sym v.if-is_held.false ∙ c.is_held.ensures) refl))
+      ]
     ]
 
 pub returns : goal.returns
 returns g c =
-    gathered_all (g.K.Kind.meaning c.args.kind.now) (holding c.args.hand.seat c.args.hand.piles.now) c.args.class c.loop-card.card-index c.loop-card.bits (omega arith) c.loop-card.invariant.0
+    gathered_all (g.K.Kind.meaning c.args.kind.now) (holding c.args.seat c.args.piles.now) c.args.class c.loop-number.number c.loop-number.bits (omega arith) c.loop-number.invariant.0

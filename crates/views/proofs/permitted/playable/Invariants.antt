@@ -3,5 +3,5 @@ use Rattle.views.specs.Permitted.{is_playable}
 use Rattle.views.proofs.Permitting.{Gathered}
 use Rattle.views.proofs.permitted.playable.Given as goal
 
-abbrev pub invariant-loop-card : goal.invariant-loop-card
-invariant-loop-card g l = Gathered (is_playable (g.K.Kind.meaning l.kind) (holding l.hand.seat l.hand.piles.now) l.class) l.card-index l.bits
+abbrev pub invariant-loop-number : goal.invariant-loop-number
+invariant-loop-number g l = Gathered (is_playable (g.K.Kind.meaning l.kind) (holding l.seat l.piles) l.class) l.number l.bits
