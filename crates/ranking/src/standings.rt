@@ -34,7 +34,7 @@ impl Order for ByRating {
     ghost weak = { λ _. ahead_weak };
 
     fn ahead(&self, a: &Entry, b: &Entry) -> bool {
-        (a.rating.0, a.won, Reverse(a.lost)) > (b.rating.0, b.won, Reverse(b.lost))
+        (b.rating.0, b.won, Reverse(b.lost)) < (a.rating.0, a.won, Reverse(a.lost))
     }
 }
 
