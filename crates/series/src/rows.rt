@@ -33,7 +33,10 @@ impl From<Places> for u8 {
 
     // The number of places.
     fn from(places: Places) -> u8 {
-        places as u8
+        match places {
+            Places::Three => 3,
+            Places::Four => 4,
+        }
     }
 }
 
