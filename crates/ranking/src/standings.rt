@@ -34,7 +34,7 @@ impl Order for ByRating {
     ghost weak = { λ _. ahead_weak };
 
     fn ahead(&self, a: &Entry, b: &Entry) -> bool {
-        (a.rating.0, a.won, Reverse(a.lost)) > (b.rating.0, b.won, Reverse(b.lost))
+        (b.rating.0, b.won, Reverse(b.lost)) < (a.rating.0, a.won, Reverse(a.lost))
     }
 }
 
@@ -43,8 +43,11 @@ pub fn rank(entries: &[Entry], i: usize) -> Result<usize, Refusal>
     ensures { result ≡ rank_answer entries.now i }
 {
     let entry = entries.get(i).ok_or(Refusal::NoSuchEntry)?;
-    let ahead = entries.iter().filter(|other| ByRating.ahead(other, entry));
-    Ok(1 + ahead.count())
+    let mut ahead = 0;
+    for other in entries {
+        ahead += usize::from(ByRating.ahead(other, entry));
+    }
+    Ok(1 + ahead)
 }
 
 // Where the first entry stands: the earliest that none is ahead of.

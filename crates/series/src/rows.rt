@@ -31,9 +31,13 @@ pub enum Row {
 impl From<Places> for u8 {
     ghost from_gives = { λ places number. number ≡ places_number places };
 
-    // The number of places.
+    // The number of places. Each is named, so that the compiler knows it to be 3 or 4 where rows
+    // are divided among the places.
     fn from(places: Places) -> u8 {
-        places as u8
+        match places {
+            Places::Three => 3,
+            Places::Four => 4,
+        }
     }
 }
 
