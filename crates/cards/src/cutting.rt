@@ -7,15 +7,10 @@ ghost use Rattle.cards.specs.Packs.{IsPack, cut_at, mark_refusal, times};
 ghost use Rattle.cards.specs.Setting.{PackSet};
 ghost use Rattle.cards.specs.Refusals.{answered};
 
-use super::deck::{Card, Place, Suit};
+use super::deck::Card;
 use super::packs::{BadPack, CutPack, UncutPack};
 use super::refusals::Refusal;
 use std::mem;
-
-const LOWEST: Card = Card {
-    suit: Suit::Diamonds,
-    place: Place::Seven,
-};
 
 // The cards of these numbers, if they are 32 different cards.
 fn named_cards(numbers: &[u8]) -> Result<[Card; 32], Refusal>
@@ -24,7 +19,7 @@ fn named_cards(numbers: &[u8]) -> Result<[Card; 32], Refusal>
     if numbers.len() != 32 {
         return Err(Refusal::NotAPack);
     }
-    let mut cards = [LOWEST; 32];
+    let mut cards = [Card::deck()[0]; 32];
     let mut seen = [false; 32];
     for (i, number) in numbers.iter().enumerate() {
         cards[i] = Card::try_from(*number).map_err(|_| Refusal::NotAPack)?;
