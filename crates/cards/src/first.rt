@@ -12,6 +12,8 @@ pub fn first<O: Order>(order: &O, items: &[O::Item]) -> Option<usize>
         return None;
     }
     let mut best = 0;
+    // From the second on, by index: an iterator over all would compare the first with itself, and
+    // the proof over one that skips the first is longer.
     for i in 1..items.len() {
         if order.ahead(&items[i], &items[best]) {
             best = i;
